@@ -1,0 +1,66 @@
+-- Laws of choosing by a test: what a number 0 says of the tests on the way to it.
+use mathlib.Core.Path.{_≡_, refl, sym, _∙_}
+use mathlib.Core.Bool.{Bool, true, false, _&&_, _||_, false≢true}
+use Prim.Native.Nat.{ℕ, zero, suc}
+use native.Mathlib.Decide.{ℕ-discrete}
+use native.Mathlib.Omega.{arith}
+use borrow.Author.Tests.{eq-eqb, ne-eqb}
+use lib.Dec.{eqb}
+use Rattle.lists.specs.Choice.{pick, andThen}
+
+pub and-left : (a b : Bool) → (a && b) ≡ true → a ≡ true
+and-left true b h = refl
+and-left false b h = h
+
+pub and-right : (a b : Bool) → (a && b) ≡ true → b ≡ true
+and-right true b h = h
+and-right false b h = absurd (false≢true h)
+
+pub and-both : (a b : Bool) → a ≡ true → b ≡ true → (a && b) ≡ true
+and-both true b h k = k
+and-both false b h k = h
+
+pub false-of : (b : Bool) → (b ≡ true → ⊥) → b ≡ false
+false-of true h = absurd (h refl)
+false-of false h = refl
+
+pub clash : (b : Bool) → b ≡ false → b ≡ true → ⊥
+clash b f t = false≢true (sym f ∙ t)
+
+-- two tests that hold together are one test
+pub same-test : (a b : Bool) → (a ≡ true → b ≡ true) → (b ≡ true → a ≡ true) → a ≡ b
+same-test true b f g = sym (f refl)
+same-test false true f g = g refl
+same-test false false f g = refl
+
+pub pick-same : {A : Type 0} (t : Bool) (a : A) → pick t a a ≡ a
+pick-same true a = refl
+pick-same false a = refl
+
+-- a test whose failure is the refusal n + 1
+pub pick-yes : (t : Bool) (a n : ℕ) → pick t a (suc n) ≡ 0 → (t ≡ true) × (a ≡ 0)
+pick-yes true a n h = (refl, h)
+pick-yes false a n h = absurd (omega arith)
+
+-- a test whose holding is the refusal n + 1
+pub pick-no : (t : Bool) (n b : ℕ) → pick t (suc n) b ≡ 0 → (t ≡ false) × (b ≡ 0)
+pick-no true n b h = absurd (omega arith)
+pick-no false n b h = (refl, h)
+
+pub then-zero : (a b : ℕ) → andThen a b ≡ 0 → (a ≡ 0) × (b ≡ 0)
+then-zero a b h = go (ℕ-discrete a 0)
+  where
+    go : Dec (a ≡ 0) → (a ≡ 0) × (b ≡ 0)
+    go (yes e) = (e, rw (eq-eqb a 0 e) at h)
+    go (no n) = absurd (n (rw (ne-eqb a 0 n) at h))
+
+-- where the first number does not refuse, the second decides
+pub then-next : (a b : ℕ) → a ≡ 0 → andThen a b ≡ b
+then-next a b e = rw (eq-eqb a 0 e)
+
+-- where the first number refuses, it is the answer
+pub then-first : (a b : ℕ) → (a ≡ 0 → ⊥) → andThen a b ≡ a
+then-first a b n = rw (ne-eqb a 0 n)
+
+pub then-both : (a b : ℕ) → a ≡ 0 → b ≡ 0 → andThen a b ≡ 0
+then-both a b e f = then-next a b e ∙ f

@@ -1,0 +1,9 @@
+pub mod Choice
+pub mod ChoiceLaws
+pub mod Count
+pub mod CountLaws
+pub mod Filling
+pub mod Parts
+pub mod PartLaws
+pub mod Runs
+pub mod RunLaws

@@ -1,0 +1,76 @@
+-- Laws of a part of a list, and of a part that was lent and came back.
+use mathlib.Core.Path.{_≡_, sym, ap, ap₂, _∙_}
+use mathlib.Core.List.{List, [], _∷_, _++_, append-assoc, append-nil}
+use Prim.Native.Nat.{ℕ, _+_, _-_, _<_, _≤_}
+use native.Mathlib.Omega.{arith}
+use native.Mathlib.Numerals.{add-one}
+use lib.ListN.{length, take, drop, set, length-append, length-drop, drop-of-length-le, take-append-drop}
+use lib.Seq.{length-take-le, take-at, drop-at, take-all, drop-drop, set-split}
+use borrow.Rule.Slice.PartMut.{putMid, post-is}
+use Rattle.lists.specs.Parts.{part, put}
+
+pub length-part : (a e : ℕ) (xs : List ℕ) → e ≤ length xs → length (part a e xs) ≡ e - a
+length-part a e xs h = length-take-le (e - a) (drop a xs) (rw length-drop (omega arith))
+
+-- the part to the end
+pub part-rest : (a : ℕ) (xs : List ℕ) → part a (length xs) xs ≡ drop a xs
+part-rest a xs = take-all (length xs - a) (drop a xs) (rw (length-drop a xs) (omega arith))
+
+pub length-put : (a : ℕ) (ys xs : List ℕ) → a + length ys ≤ length xs → length (put a ys xs) ≡ length xs
+unfolding put
+length-put a ys xs h =
+    let t : length (take a xs) ≡ a = length-take-le a xs (omega arith) in
+    rw (length-append, length-append, length-drop) (omega arith)
+
+-- what stands before the place stays
+pub take-put : (a : ℕ) (ys xs : List ℕ) → a ≤ length xs → take a (put a ys xs) ≡ take a xs
+unfolding put
+take-put a ys xs h = take-at (take a xs) _ a (length-take-le a xs h)
+
+-- what was put, with what stands before it
+pub take-put-end : (a : ℕ) (ys xs : List ℕ) → a ≤ length xs → take (a + length ys) (put a ys xs) ≡ take a xs ++ ys
+unfolding put
+take-put-end a ys xs h =
+    let t : length (take a xs) ≡ a = length-take-le a xs h in
+    let m : length (take a xs ++ ys) ≡ a + length ys = length-append (take a xs) ys ∙ omega arith in
+    rw (← append-assoc (take a xs) ys (drop (a + length ys) xs)) (take-at (take a xs ++ ys) (drop (a + length ys) xs) (a + length ys) m)
+
+-- what stands behind it stays
+pub drop-put : (a : ℕ) (ys xs : List ℕ) → a ≤ length xs → drop (a + length ys) (put a ys xs) ≡ drop (a + length ys) xs
+unfolding put
+drop-put a ys xs h =
+    let t : length (take a xs) ≡ a = length-take-le a xs h in
+    let m : length (take a xs ++ ys) ≡ a + length ys = length-append (take a xs) ys ∙ omega arith in
+    rw (← append-assoc (take a xs) ys (drop (a + length ys) xs)) (drop-at (take a xs ++ ys) (drop (a + length ys) xs) (a + length ys) m)
+
+-- two lists put one behind the other are one list put
+pub put-put : (a : ℕ) (ys zs xs : List ℕ) → a ≤ length xs → put (a + length ys) zs (put a ys xs) ≡ put a (ys ++ zs) xs
+unfolding put
+put-put a ys zs xs h =
+    let n : a + length ys + length zs ≡ a + length (ys ++ zs) = rw length-append (omega arith) in
+    let d : drop (a + length ys + length zs) (put a ys xs) ≡ drop (a + length (ys ++ zs)) xs =
+    sym (drop-drop (length zs) (a + length ys) (put a ys xs))
+    ∙ ap (drop (length zs)) (drop-put a ys xs h)
+    ∙ drop-drop (length zs) (a + length ys) xs
+    ∙ ap (λ (k : ℕ). drop k xs) n in
+    ap₂ (λ (x y : List ℕ). x ++ (zs ++ y)) (take-put-end a ys xs h) d ∙ simp append-assoc
+
+-- nothing put
+pub put-none : (a : ℕ) (xs : List ℕ) → put a [] xs ≡ xs
+unfolding put
+put-none a xs = let e : a + 0 ≡ a = omega arith in rw e (take-append-drop a xs)
+
+-- one element put is a store
+pub put-one : (a y : ℕ) (xs : List ℕ) → a < length xs → set xs a y ≡ put a (y ∷ []) xs
+unfolding put
+put-one a y xs h = rw add-one (set-split xs a y h)
+
+-- a part lent and come back
+pub put-lent : (a e : ℕ) (xs ys : List ℕ) → a ≤ e → length ys ≡ e - a → putMid a (e - a) xs ys ≡ put a ys xs
+unfolding put
+put-lent a e xs ys h l = let m : a + length ys ≡ e = omega arith in rw (post-is a e xs h, m)
+
+-- a list that fills the whole area
+pub put-whole : (ys xs : List ℕ) → length ys ≡ length xs → put 0 ys xs ≡ ys
+unfolding put
+put-whole ys xs l = let k : length xs ≤ 0 + length ys = omega arith in rw (drop-of-length-le xs k) (append-nil ys)
