@@ -1,6 +1,6 @@
 // Numbers and octets as bits, highest first.
 ghost use mathlib.Core.Path.{_≡_};
-ghost use Prim.Native.Nat.{_*_, _≤_};
+ghost use Prim.Native.Nat.{_*_};
 ghost use lib.ListN.{length};
 ghost use Rattle.bits.specs.Digits.{digits, number};
 ghost use Rattle.bits.specs.Octets.{bitsOf, octetsOf};

@@ -10,10 +10,10 @@ use native.Mathlib.Numerals.{add-one}
 use native.Mathlib.Omega.{arith}
 use borrow.Author.Tests.{lt-ltb, le-ltb, ltb-true, ltb-false}
 use lib.Dec.{ltb}
-use lib.ListN.{length, getD, take, drop, length-append, length-drop, List·getD-append}
+use lib.ListN.{length, getD, drop, length-append, length-drop, List·getD-append}
 use lib.Seq.{ext-getD, getD-at, take-append-le, drop-append-le, take-all, drop-at}
 use Rattle.lists.specs.Choice.{pick}
-use Rattle.lists.specs.ChoiceLaws.{and-left, and-right, and-both}
+use Rattle.lists.specs.ChoiceLaws.{and-left, and-right, and-both, false-of, clash}
 use Rattle.lists.specs.Count.{sum, every, first, table, joined}
 use Rattle.lists.specs.Parts.{part}
 
@@ -72,6 +72,13 @@ pub every-all : (n : ℕ) (f : ℕ → Bool) → ((k : ℕ) → k < n → f k �
 unfolding every
 every-all zero f h = refl
 every-all (suc n) f h = and-both (every n f) (f n) (every-all n f (λ k l. h k (omega arith))) (h n (omega arith))
+
+pub every-next : (n : ℕ) (f : ℕ → Bool) → every n f ≡ true → f n ≡ true → every (n + 1) f ≡ true
+every-next n f a b = every-more n f ∙ and-both (every n f) (f n) a b
+
+-- one of which f does not hold is enough
+pub every-not : (n : ℕ) (f : ℕ → Bool) (k : ℕ) → k < n → f k ≡ false → every n f ≡ false
+every-not n f k h e = false-of (every n f) (λ t. clash (f k) e (every-at n f t k h))
 
 -- what makes r the first k below n of which f holds
 pub record First (n : ℕ) (f : ℕ → Bool) (r : ℕ) : Type 0 where

@@ -1,0 +1,9 @@
+pub mod Needs
+pub mod Rates
+pub mod RateLaws
+pub mod Plans
+pub mod PlanLaws
+pub mod Places
+pub mod PlaceLaws
+pub mod States
+pub mod StateLaws

@@ -1,0 +1,86 @@
+-- Laws of plans: what an accepted plan has.
+use mathlib.Core.Path.{_≡_}
+use mathlib.Core.Bool.{true}
+use Prim.Native.Nat.{ℕ, _+_, _-_, _%_, _≤_, _<_}
+use native.Mathlib.Nat.{mul-le-mul-left}
+use native.Mathlib.Omega.{arith}
+use borrow.Author.Tests.{le-leb, leb-true, eqb-true}
+use lib.Dec.{leb, eqb}
+use Rattle.lists.specs.Choice.{pick}
+use Rattle.lists.specs.ChoiceLaws.{and-left, and-right, then-zero, pick-yes}
+use Rattle.lists.specs.Count.{every}
+use Rattle.lists.specs.CountLaws.{sum-none, sum-more, sum-mono, every-at}
+use Rattle.plan.specs.declared.Plan.{Plan}
+use Rattle.plan.specs.Rates.{rateOk, modulationOk}
+use Rattle.plan.specs.RateLaws.{between}
+use Rattle.plan.specs.Plans.{modulationOf, rateOf, slotsOf, slotsBefore, groupsOk, valuesOk, fallsAfter, planNumber, dataSlotsOf}
+
+pub before-none : (p : Plan) → slotsBefore p 0 ≡ 0
+unfolding slotsBefore
+before-none p = sum-none (slotsOf p)
+
+pub before-more : (p : Plan) (g : ℕ) → slotsBefore p (g + 1) ≡ slotsBefore p g + slotsOf p g
+unfolding slotsBefore
+before-more p g = sum-more g (slotsOf p)
+
+pub before-mono : (p : Plan) (g h : ℕ) → g ≤ h → slotsBefore p g ≤ slotsBefore p h
+unfolding slotsBefore
+before-mono p g h = sum-mono g h (slotsOf p)
+
+-- an accepted plan
+pub record Accepted (p : Plan) : Type 0 where
+  pub low : 1 ≤ p .count
+  pub high : p .count ≤ 8
+  pub values : every (p .count) (valuesOk p) ≡ true
+  pub order : every (p .count - 1) (fallsAfter p) ≡ true
+  pub total : slotsBefore p (p .count) ≡ 120
+
+pub groups-yes : (p : Plan) → 1 ≤ p .count → p .count ≤ 8 → groupsOk p ≡ true
+unfolding groupsOk
+groups-yes p l h = rw (le-leb 1 (p .count) l, le-leb (p .count) 8 h)
+
+pub accepted : (p : Plan) → planNumber p ≡ 0 → Accepted p
+unfolding planNumber groupsOk
+accepted p h =
+    let a = then-zero (pick (groupsOk p) 0 1) _ h in
+    let b = then-zero (pick (every (p .count) (valuesOk p)) 0 1) _ (a .1) in
+    let c = then-zero (pick (every (p .count - 1) (fallsAfter p)) 0 1) _ (b .1) in
+    let g = between 1 8 (p .count) (pick-yes (groupsOk p) 0 0 (a .0) .0) in
+    record {
+      low = g .low;
+      high = g .high;
+      values = pick-yes (every (p .count) (valuesOk p)) 0 0 (b .0) .0;
+      order = pick-yes (every (p .count - 1) (fallsAfter p)) 0 0 (c .0) .0;
+      total = eqb-true (slotsBefore p (p .count)) 120 (pick-yes (eqb (slotsBefore p (p .count)) 120) 0 0 (c .1) .0);
+    }
+
+-- the values of a group that is accepted
+pub record Values (m r n : ℕ) : Type 0 where
+  pub modulation : modulationOk m ≡ true
+  pub rate : rateOk r ≡ true
+  pub some : 1 ≤ n
+  pub fives : n % 5 ≡ 0
+
+pub values-are : (p : Plan) (g : ℕ) → valuesOk p g ≡ true → Values (modulationOf p g) (rateOf p g) (slotsOf p g)
+unfolding valuesOk
+values-are p g h =
+    let a = and-right (modulationOk (modulationOf p g)) _ h in
+    let b = and-right (rateOk (rateOf p g)) _ a in
+    record {
+      modulation = and-left (modulationOk (modulationOf p g)) _ h;
+      rate = and-left (rateOk (rateOf p g)) _ a;
+      some = leb-true 1 (slotsOf p g) (and-left (leb 1 (slotsOf p g)) _ b);
+      fives = eqb-true (slotsOf p g % 5) 0 (and-right (leb 1 (slotsOf p g)) _ b);
+    }
+
+pub group-values : (p : Plan) (g : ℕ) → Accepted p → g < p .count → Values (modulationOf p g) (rateOf p g) (slotsOf p g)
+group-values p g a h = values-are p g (every-at (p .count) (valuesOk p) (a .values) g h)
+
+-- no more slots carry data than a group has
+pub data-within : (p : Plan) (g : ℕ) → Accepted p → g < p .count → dataSlotsOf p g ≤ slotsOf p g
+unfolding dataSlotsOf
+data-within p g a h =
+    let v = group-values p g a h in
+    let m = between 1 5 (modulationOf p g) (v .modulation) in
+    let t = mul-le-mul-left (slotsOf p g) (m .high) in
+    omega arith

@@ -1,0 +1,71 @@
+-- The frame state (document 01, "Plan and place" and "Refusal list"): opening a frame, and passing a dummy.
+use mathlib.Core.Bool.{Bool, _&&_}
+use Prim.Native.Nat.{ℕ, _+_}
+use lib.Dec.{eqb, leb}
+use lib.ListN.{replicate}
+use Rattle.lists.specs.Choice.{pick, andThen}
+use Rattle.refusal.specs.Numbers.{PLAN, DUMMY, FULL, REGISTER}
+use Rattle.dispersal.specs.Register.{maskOk, registerOk}
+use Rattle.plan.specs.declared.Plan.{Plan}
+use Rattle.plan.specs.declared.FrameState.{FrameState}
+use Rattle.plan.specs.declared.Answer.{Answer}
+use Rattle.plan.specs.Plans.{planNumber}
+use Rattle.plan.specs.Places.{carries}
+
+-- the slot register has 25 bits
+abbrev pub slotWidth : ℕ
+slotWidth = 25
+
+-- the plan that a state holds
+abbrev pub planIn : FrameState → Plan
+planIn s = record { count = s .count; modulation = s .modulation; rate = s .rate; slots = s .slots }
+
+-- "It begins at slot 1 with the register at its start"
+abbrev pub begun : Plan → ℕ → ℕ → FrameState
+begun p mask start =
+    record { count = p .count; modulation = p .modulation; rate = p .rate; slots = p .slots; mask = mask; start = start; slot = 1; register = start }
+
+-- "the state of a refused opening is all zeros"
+abbrev pub zeros : FrameState
+zeros =
+    record { count = 0; modulation = replicate 8 0; rate = replicate 8 0; slots = replicate 8 0; mask = 0; start = 0; slot = 0; register = 0 }
+
+-- "moves on by one", with register r
+abbrev pub movedOn : FrameState → ℕ → FrameState
+movedOn s r =
+    record { count = s .count; modulation = s .modulation; rate = s .rate; slots = s .slots; mask = s .mask; start = s .start; slot = s .slot + 1; register = r }
+
+-- the number with one state where it is 0, and another where it refuses
+abbrev pub answer : ℕ → FrameState → FrameState → Answer
+answer n good refused = record { number = n; state = pick (eqb n 0) good refused }
+
+-- "Its settings are mask and start of the 25-bit register"
+abbrev pub settingsOk : ℕ → ℕ → Bool
+settingsOk mask start = maskOk slotWidth mask && registerOk slotWidth start
+
+-- "Opening: 1, 6"
+unfoldable pub openNumber : Plan → ℕ → ℕ → ℕ
+openNumber p mask start = andThen (planNumber p) (pick (settingsOk mask start) 0 REGISTER)
+
+unfoldable pub opened : Plan → ℕ → ℕ → Answer
+opened p mask start = answer (openNumber p mask start) (begun p mask start) zeros
+
+-- "Slot calls: 1, 6 (a state handed in is tested anew; slot number 0 is 1)"; slot number 0 belongs to the first of the
+-- plan's tests
+unfoldable pub soundNumber : FrameState → ℕ
+soundNumber s =
+    andThen (pick (eqb (s .slot) 0) PLAN 0)
+    (andThen (planNumber (planIn s))
+    (pick (settingsOk (s .mask) (s .start) && registerOk slotWidth (s .register)) 0 REGISTER))
+
+-- ", 3": "After slot 120 the state is full"
+unfoldable pub stateNumber : FrameState → ℕ
+stateNumber s = andThen (soundNumber s) (pick (leb (s .slot) 120) 0 FULL)
+
+-- ", 2": "a pass at a data slot"
+unfoldable pub passNumber : FrameState → ℕ
+passNumber s = andThen (stateNumber s) (pick (carries (planIn s) (s .slot)) DUMMY 0)
+
+-- passing a dummy moves on by one, and the register stands still; a refusal changes no state handed in
+unfoldable pub passed : FrameState → Answer
+passed s = answer (passNumber s) (movedOn s (s .register)) s

@@ -1,0 +1,117 @@
+// The rules of a plan, as four tests over the whole of it: number of groups, values, order, total.
+ghost use mathlib.Core.Path.{_≡_};
+ghost use mathlib.Core.Bool.{_&&_};
+ghost use Prim.Native.Nat.{_+_, _-_, _≤_, _<_};
+ghost use lib.Dec.{leb};
+ghost use Rattle.lists.specs.Count.{every};
+ghost use Rattle.plan.specs.Plans.{valuesOk, fallsAfter, slotsBefore, planNumber};
+use crate::Plan;
+
+// Whether x is a number from 1 to most.
+fn known(x: u16, most: u16) -> bool
+    ensures { λ r. ⌜ r ≡ (leb 1 x && leb x most) ⌝ }
+{
+    if x < 1 {
+        return false;
+    }
+    x <= most
+}
+
+fn values_ok(plan: Plan, g: usize) -> bool
+    requires { ⌜ g < 8 ⌝ }
+    ensures { λ r. ⌜ r ≡ valuesOk plan g ⌝ }
+{
+    let slots = plan.slots[g];
+    if known(plan.modulation[g], 5) {
+        if known(plan.rate[g], 11) {
+            if 1 <= slots {
+                return slots % 5 == 0;
+            }
+        }
+    }
+    false
+}
+
+fn all_values_ok(plan: Plan) -> bool
+    requires { ⌜ plan .count ≤ 8 ⌝ }
+    ensures { λ r. ⌜ r ≡ every (plan .count) (valuesOk plan) ⌝ }
+{
+    let count = lists::index(plan.count);
+    let mut g: usize = 0;
+    while g < count {
+        if values_ok(plan, g) {
+            g += 1;
+        } else {
+            return false;
+        }
+    }
+    true
+}
+
+// Whether group g + 1 falls below group g.
+fn falls_after(plan: Plan, g: usize) -> bool
+    requires { ⌜ g + 1 < 8 ⌝ }
+    ensures { λ r. ⌜ r ≡ fallsAfter plan g ⌝ }
+{
+    let next = g + 1;
+    let modulation = plan.modulation[g];
+    let lower = plan.modulation[next];
+    if lower < modulation {
+        return true;
+    }
+    if lower == modulation {
+        let rate = plan.rate[g];
+        return plan.rate[next] < rate;
+    }
+    false
+}
+
+fn all_fall(plan: Plan) -> bool
+    requires { ⌜ plan .count ≤ 8 ⌝ }
+    ensures { λ r. ⌜ r ≡ every (plan .count - 1) (fallsAfter plan) ⌝ }
+{
+    let count = lists::index(plan.count);
+    let mut g: usize = 0;
+    while g + 1 < count {
+        if falls_after(plan, g) {
+            g += 1;
+        } else {
+            return false;
+        }
+    }
+    true
+}
+
+// The slots of all groups.
+fn total(plan: Plan) -> usize
+    requires { ⌜ plan .count ≤ 8 ⌝ }
+    ensures { λ r. ⌜ r ≡ slotsBefore plan (plan .count) ⌝ }
+{
+    let count = lists::index(plan.count);
+    let mut g: usize = 0;
+    let mut sum: usize = 0;
+    while g < count {
+        sum += lists::index(plan.slots[g]);
+        g += 1;
+    }
+    sum
+}
+
+// The plan's number: 0, or the refusal of the first test that fails.
+pub fn plan_number(plan: Plan) -> u8
+    ensures { λ r. ⌜ r ≡ planNumber plan ⌝ }
+{
+    if known(plan.count, 8) {
+        if all_values_ok(plan) {
+            if all_fall(plan) {
+                if total(plan) == 120 {
+                    return 0;
+                }
+                return refusal::PLAN;
+            }
+            return refusal::PLAN;
+        }
+        return refusal::PLAN;
+    }
+    refusal::PLAN
+}

@@ -1,0 +1,52 @@
+// Rates and modulations, the slot plan, the place of a slot, and the frame state: opening a frame, and passing a dummy.
+mod groups;
+mod places;
+mod rates;
+mod state;
+
+pub use groups::plan_number;
+pub use places::place_of;
+pub use rates::data_octets;
+pub use rates::packets;
+pub use rates::parity_bits;
+pub use rates::parity_step;
+pub use rates::rows;
+pub use state::advanced;
+pub use state::open;
+pub use state::pass;
+pub use state::plan_in;
+pub use state::state_number;
+
+// A slot plan: of the groups 0, 1, .. the first `count` are in use.
+pub struct Plan {
+    pub count: u16,
+    pub modulation: [u16; 8],
+    pub rate: [u16; 8],
+    pub slots: [u16; 8],
+}
+
+// Where a slot lies: its group, with the group's modulation and rate, and whether the slot carries data or is a dummy.
+pub struct Place {
+    pub group: usize,
+    pub modulation: u16,
+    pub rate: u16,
+    pub carries: bool,
+}
+
+// The frame state: the plan's groups, the register's settings, the next slot number from 1, and the register.
+pub struct FrameState {
+    pub count: u16,
+    pub modulation: [u16; 8],
+    pub rate: [u16; 8],
+    pub slots: [u16; 8],
+    pub mask: u32,
+    pub start: u32,
+    pub slot: u16,
+    pub register: u32,
+}
+
+// What a call answers: its number, 0 or the refusal, and the state after it.
+pub struct Answer {
+    pub number: u8,
+    pub state: FrameState,
+}

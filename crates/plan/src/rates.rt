@@ -1,0 +1,47 @@
+// What a rate's number says of its slots: all are 0, or none of the bits, for a number that is no rate's.
+ghost use mathlib.Core.Path.{_≡_};
+ghost use Rattle.plan.specs.Rates.{rowsOf, stepOf, parityBitsOf, dataOctetsOf, packetsOf};
+
+const ROWS: [usize; 12] = [0, 41, 49, 61, 73, 81, 89, 93, 97, 101, 105, 109];
+
+// The rows R of the parity table.
+pub fn rows(rate: u16) -> usize
+    ensures { λ r. ⌜ r ≡ rowsOf rate ⌝ }
+{
+    if 11 < rate {
+        return 0;
+    }
+    ROWS[lists::index(rate)]
+}
+
+// The step q between the positions that a row's bits reach.
+pub fn parity_step(rate: u16) -> usize
+    ensures { λ r. ⌜ r ≡ stepOf rate ⌝ }
+{
+    120 - rows(rate)
+}
+
+// The number M of parity bits.
+pub fn parity_bits(rate: u16) -> usize
+    ensures { λ r. ⌜ r ≡ parityBitsOf rate ⌝ }
+{
+    374 * parity_step(rate)
+}
+
+// The data octets of a slot.
+pub fn data_octets(rate: u16) -> usize
+    ensures { λ r. ⌜ r ≡ dataOctetsOf rate ⌝ }
+{
+    let count = rows(rate);
+    if count == 0 {
+        return 0;
+    }
+    374 * (count - 1) / 8
+}
+
+// The packets of a slot.
+pub fn packets(rate: u16) -> usize
+    ensures { λ r. ⌜ r ≡ packetsOf rate ⌝ }
+{
+    data_octets(rate) / 187
+}

@@ -1,0 +1,170 @@
+// The frame state: opening a frame, what every slot call tests, and passing a dummy.
+ghost use mathlib.Core.Path.{_≡_};
+ghost use Prim.Native.Nat.{_≤_};
+ghost use Rattle.plan.specs.States.{planIn, settingsOk, begun, zeros, movedOn, openNumber, opened, soundNumber, stateNumber, passNumber, passed};
+use crate::Answer;
+use crate::FrameState;
+use crate::Plan;
+use crate::groups::plan_number;
+use crate::places::place_of;
+
+// The slot register's width.
+const SLOT_WIDTH: u32 = 25;
+
+fn settings_ok(mask: u32, start: u32) -> bool
+    ensures { λ r. ⌜ r ≡ settingsOk mask start ⌝ }
+{
+    if dispersal::mask_ok(SLOT_WIDTH, mask) {
+        return dispersal::register_ok(SLOT_WIDTH, start);
+    }
+    false
+}
+
+fn open_number(plan: Plan, mask: u32, start: u32) -> u8
+    ensures { λ r. ⌜ r ≡ openNumber plan mask start ⌝ }
+{
+    let number = plan_number(plan);
+    if number != 0 {
+        return number;
+    }
+    if settings_ok(mask, start) {
+        return 0;
+    }
+    refusal::REGISTER
+}
+
+fn no_state() -> FrameState
+    ensures { λ r. ⌜ r ≡ zeros ⌝ }
+{
+    let none = [0u16; 8];
+    FrameState {
+        count: 0,
+        modulation: none,
+        rate: none,
+        slots: none,
+        mask: 0,
+        start: 0,
+        slot: 0,
+        register: 0,
+    }
+}
+
+fn first_state(plan: Plan, mask: u32, start: u32) -> FrameState
+    ensures { λ r. ⌜ r ≡ begun plan mask start ⌝ }
+{
+    let modulation = plan.modulation;
+    let rate = plan.rate;
+    let slots = plan.slots;
+    FrameState {
+        count: plan.count,
+        modulation,
+        rate,
+        slots,
+        mask,
+        start,
+        slot: 1,
+        register: start,
+    }
+}
+
+// Opens a frame: the state at slot 1, or the refusal and a state of zeros.
+pub fn open(plan: Plan, mask: u32, start: u32) -> Answer
+    ensures { λ r. ⌜ r ≡ opened plan mask start ⌝ }
+{
+    let number = open_number(plan, mask, start);
+    if number == 0 {
+        let state = first_state(plan, mask, start);
+        return Answer { number, state };
+    }
+    let state = no_state();
+    Answer { number, state }
+}
+
+// The plan that a state holds.
+pub fn plan_in(state: FrameState) -> Plan
+    ensures { λ r. ⌜ r ≡ planIn state ⌝ }
+{
+    let modulation = state.modulation;
+    let rate = state.rate;
+    let slots = state.slots;
+    Plan {
+        count: state.count,
+        modulation,
+        rate,
+        slots,
+    }
+}
+
+// The refusal of a state for its plan or its register, or 0.
+fn sound_number(state: FrameState) -> u8
+    ensures { λ r. ⌜ r ≡ soundNumber state ⌝ }
+{
+    if state.slot == 0 {
+        return refusal::PLAN;
+    }
+    let number = plan_number(plan_in(state));
+    if number != 0 {
+        return number;
+    }
+    if settings_ok(state.mask, state.start) {
+        if dispersal::register_ok(SLOT_WIDTH, state.register) {
+            return 0;
+        }
+        return refusal::REGISTER;
+    }
+    refusal::REGISTER
+}
+
+// What every slot call tests of the state handed in.
+pub fn state_number(state: FrameState) -> u8
+    ensures { λ r. ⌜ r ≡ stateNumber state ⌝ }
+{
+    let number = sound_number(state);
+    if number != 0 {
+        return number;
+    }
+    if state.slot <= 120 {
+        return 0;
+    }
+    refusal::FULL
+}
+
+// The state one slot on, with a register.
+pub fn advanced(state: FrameState, register: u32) -> FrameState
+    requires { ⌜ state .slot ≤ 120 ⌝ }
+    ensures { λ r. ⌜ r ≡ movedOn state register ⌝ }
+{
+    let mut next = state;
+    next.slot = state.slot + 1;
+    next.register = register;
+    next
+}
+
+fn pass_number(state: FrameState) -> u8
+    ensures { λ r. ⌜ r ≡ passNumber state ⌝ }
+{
+    let number = state_number(state);
+    if number != 0 {
+        return number;
+    }
+    let place = place_of(plan_in(state), lists::index(state.slot));
+    if place.carries {
+        return refusal::DUMMY;
+    }
+    0
+}
+
+// Passes a dummy: the state one slot on, its register where it was, or the refusal and the state as it was.
+pub fn pass(state: FrameState) -> Answer
+    ensures { λ r. ⌜ r ≡ passed state ⌝ }
+{
+    let number = pass_number(state);
+    if number == 0 {
+        let next = advanced(state, state.register);
+        return Answer {
+            number,
+            state: next,
+        };
+    }
+    Answer { number, state }
+}

@@ -1,0 +1,50 @@
+-- Document 01, "Refusal list": the number of each word. 0 is accepted.
+use Prim.Native.Nat.{ℕ}
+
+-- "breaks a rule above; in a lone call, modulation or rate unknown"
+abbrev pub PLAN : ℕ
+PLAN = 1
+
+-- "data call at a dummy, or a pass at a data slot"
+abbrev pub DUMMY : ℕ
+DUMMY = 2
+
+-- "slot 120 is past"
+abbrev pub FULL : ℕ
+FULL = 3
+
+-- "a lent area isn't exactly its length"
+abbrev pub LENGTH : ℕ
+LENGTH = 4
+
+-- "the parity table breaks its form"
+abbrev pub TABLE : ℕ
+TABLE = 5
+
+-- "start, or the register in a state, 0 or too wide; mask too wide or lacking the top weight"
+abbrev pub REGISTER : ℕ
+REGISTER = 6
+
+-- "a TS packet doesn't begin 0x47"
+abbrev pub SYNC : ℕ
+SYNC = 7
+
+-- "some LDPC parity bit is wrong"
+abbrev pub PARITY : ℕ
+PARITY = 8
+
+-- "BCH bits wrong after dispersal is taken off"
+abbrev pub BCH : ℕ
+BCH = 9
+
+-- "stuff bits not all ones after dispersal is taken off"
+abbrev pub STUFF : ℕ
+STUFF = 10
+
+-- "one of the last two TMCC bits is 1"
+abbrev pub TAIL : ℕ
+TAIL = 11
+
+-- "a symbol is 2^modulation or more"
+abbrev pub LABEL : ℕ
+LABEL = 12
