@@ -1,0 +1,65 @@
+-- How long the texts of the list are: the list of any plan of at most 8 groups fits 512 octets.
+use mathlib.Core.Path.{_≡_, refl}
+use mathlib.Core.Bool.{Bool, true, false}
+use mathlib.Core.List.{List, [], _∷_}
+use Prim.Native.Nat.{ℕ, zero, suc, _+_, _*_, _≤_}
+use native.Mathlib.Omega.{arith}
+use lib.Dec.{leb, ltb}
+use lib.ListN.{length, length-append}
+use Rattle.lists.specs.Choice.{pick}
+use Rattle.lists.specs.Count.{joined}
+use Rattle.plan.specs.declared.Plan.{Plan}
+use Rattle.plan.specs.Plans.{modulationOf, rateOf}
+use Rattle.plan.specs.Places.{runFirst, runLast}
+use Rattle.plan_text.specs.Characters.{decimal}
+use Rattle.plan_text.specs.Listing.{heading, kindWord, field, runLine, runText, groupText, totalWord, dataWord, totalLine}
+
+short : (a b : Bool) (x y z : List ℕ) → length x ≤ 3 → length y ≤ 3 → length z ≤ 3 → length (pick a x (pick b y z)) ≤ 3
+short true b x y z h k l = h
+short false true x y z h k l = k
+short false false x y z h k l = l
+
+pub length-decimal : (n : ℕ) → length (decimal n) ≤ 3
+unfolding decimal
+length-decimal n = short (ltb n 10) (ltb n 100) _ _ _ (omega arith) (omega arith) (omega arith)
+
+pub length-field : (n : ℕ) → length (field n) ≤ 4
+unfolding field
+length-field n = omega (arith, length-append (decimal n) (32 ∷ []), length-decimal n)
+
+pub length-kindWord : (b : Bool) → length (kindWord b) ≤ 6
+unfolding kindWord
+length-kindWord true = omega arith
+length-kindWord false = omega arith
+
+pub length-runLine : (from to m r : ℕ) (word : List ℕ) → length (runLine from to m r word) ≤ 16 + length word
+unfolding runLine
+length-runLine from to m r word =
+    simp length-append (omega (arith, length-field from, length-field to, length-field m, length-field r))
+
+none-or : (b : Bool) (x : List ℕ) (n : ℕ) → length x ≤ n → length (pick b x []) ≤ n
+none-or true x n h = h
+none-or false x n h = omega arith
+
+pub length-runText : (p : Plan) (g : ℕ) (b : Bool) → length (runText p g b) ≤ 22
+unfolding runText
+length-runText p g b =
+    none-or (leb (runFirst p g b) (runLast p g b)) _ 22
+    (let k = length-kindWord b in omega (arith, length-runLine (runFirst p g b) (runLast p g b) (modulationOf p g) (rateOf p g) (kindWord b)))
+
+pub length-groupText : (p : Plan) (g : ℕ) → length (groupText p g) ≤ 44
+unfolding groupText
+length-groupText p g = simp length-append (omega (arith, length-runText p g true, length-runText p g false))
+
+pub length-groups : (p : Plan) (n : ℕ) → length (joined n (groupText p)) ≤ 44 * n
+unfolding joined
+length-groups p zero = omega arith
+length-groups p (suc n) = simp length-append (omega (arith, length-groups p n, length-groupText p n))
+
+pub length-totalLine : (d u : ℕ) → length (totalLine d u) ≤ 25
+unfolding totalLine totalWord dataWord kindWord
+length-totalLine d u = simp length-append (omega (arith, length-field d, length-field u))
+
+pub length-heading : length heading ≡ 25
+unfolding heading
+length-heading = refl
