@@ -4,15 +4,17 @@ use mathlib.Core.Bool.{Bool, true, false}
 use mathlib.Core.List.{List, [], _∷_}
 use Prim.Native.Nat.{ℕ, zero, suc, _+_, _*_, _≤_}
 use native.Mathlib.Omega.{arith}
-use lib.Dec.{leb, ltb}
+use lib.Dec.{eqb, leb, ltb}
 use lib.ListN.{length, length-append}
 use Rattle.lists.specs.Choice.{pick}
 use Rattle.lists.specs.Count.{joined}
+use Rattle.lists.specs.CountLaws.{First, first-first}
 use Rattle.plan.specs.declared.Plan.{Plan}
 use Rattle.plan.specs.Plans.{modulationOf, rateOf}
 use Rattle.plan.specs.Places.{runFirst, runLast}
 use Rattle.plan_text.specs.Characters.{decimal}
-use Rattle.plan_text.specs.Listing.{heading, kindWord, field, runLine, runText, groupText, totalWord, dataWord, totalLine}
+use Rattle.plan_text.specs.Listing.{heading, kindWord, field, runLine, runText, groupText, totalWord, dataWord, totalLine, dataTotal, dummyTotal, listText, refusedWord, refusedText, answerText}
+use Rattle.plan_text.specs.Reading.{readNumber, planOf, linesOf, stopsAt}
 
 short : (a b : Bool) (x y z : List ℕ) → length x ≤ 3 → length y ≤ 3 → length z ≤ 3 → length (pick a x (pick b y z)) ≤ 3
 short true b x y z h k l = h
@@ -63,3 +65,25 @@ length-totalLine d u = simp length-append (omega (arith, length-field d, length-
 pub length-heading : length heading ≡ 25
 unfolding heading
 length-heading = refl
+
+pub length-listText : (p : Plan) → p .count ≤ 8 → length (listText p) ≤ 402
+unfolding listText
+length-listText p h =
+    simp length-append
+    (omega (arith, length-heading, length-groups p (p .count), length-totalLine (dataTotal p) (dummyTotal p)))
+
+pub length-refusedText : (n : ℕ) → length (refusedText n) ≤ 12
+unfolding refusedText refusedWord
+length-refusedText n = simp length-append (omega (arith, length-decimal n))
+
+either : (b : Bool) (x y : List ℕ) (n : ℕ) → length x ≤ n → length y ≤ n → length (pick b x y) ≤ n
+either true x y n h k = h
+either false x y n h k = k
+
+-- the answer to any text fits the area that plan-list lends
+pub length-answerText : (t : List ℕ) → length (answerText t) ≤ 512
+unfolding answerText planOf linesOf
+length-answerText t =
+    either (eqb (readNumber t) 0) (listText (planOf t)) (refusedText (readNumber t)) 512
+    (omega (arith, length-listText (planOf t) (first-first 8 (stopsAt t) .within)))
+    (omega (arith, length-refusedText (readNumber t)))

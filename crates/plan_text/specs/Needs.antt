@@ -1,10 +1,15 @@
--- What the functions ask of their arguments.
+-- What the functions ask of their arguments, and say of their answers besides its equation.
 use mathlib.Core.Path.{_≡_}
 use mathlib.Core.List.{List}
 use Prim.Native.Nat.{ℕ, _+_, _≤_, _<_}
-use lib.ListN.{length}
+use lib.ListN.{length, take}
 use Rattle.plan.specs.declared.Plan.{Plan}
 use Rattle.plan.specs.Plans.{planNumber, slotsBefore}
+
+-- the first n octets of an area are n
+pub record Taken (n : ℕ) (area : List ℕ) : Type 0 where
+  pub within : n ≤ length area
+  pub counted : n ≡ length (take n area)
 
 -- room for n octets from a place on
 pub record Room (n at : ℕ) (area : List ℕ) : Type 0 where

@@ -8,7 +8,7 @@ ghost use Rattle.lists.specs.Count.{joined};
 ghost use Rattle.lists.specs.Parts.{put};
 ghost use Rattle.plan.specs.Plans.{planNumber};
 ghost use Rattle.plan_text.specs.Listing.{runLine, groupText, dataTotal, totalLine, listText, listed, refusedText, answerText};
-ghost use Rattle.plan_text.specs.Needs.{Number, RunLine, GroupLines, PlanLines, Totals, ListArea};
+ghost use Rattle.plan_text.specs.Needs.{Taken, Number, RunLine, GroupLines, PlanLines, Totals, ListArea};
 ghost use Rattle.plan_text.specs.Written.{Written};
 use crate::Listed;
 use crate::read::read_plan;
@@ -129,10 +129,12 @@ pub fn write_list(plan: Plan, out: &mut [u8; 512]) -> Listed
     Listed { number, length }
 }
 
-// What plan-list prints for a text: the list of its plan, or the line of its refusal; and how many octets that takes.
+// What plan-list prints for a text: the list of its plan, or the line of its refusal; and how many octets that takes. The
+// last clause follows from the others; with it `&out[..n]` needs no proof from a caller.
 pub fn answer(text: &[u8], out: &mut [u8; 512]) -> usize
     ensures { λ r. ⌜ r ≡ length (answerText (now (text .entry))) ⌝ }
     ensures { λ _. ⌜ now (out .exit) ≡ put 0 (answerText (now (text .entry))) (now (out .entry)) ⌝ }
+    ensures { λ r. ⌜ Taken r (now (out .exit)) ⌝ }
 {
     let read = read_plan(text);
     if read.number != 0 {

@@ -1,18 +1,21 @@
 -- `plan_text::answer`: the number read decides between the list and the refusal.
 use mathlib.Core.Path.{_≡_, sym, ap, _∙_}
 use mathlib.Core.List.{List}
-use Prim.Native.Nat.{ℕ}
+use Prim.Native.Nat.{ℕ, _≤_}
 use native.Mathlib.Omega.{arith}
 use borrow.Author.Needs.{needs}
 use borrow.Author.Tests.{eq-eqb, ne-eqb}
 use lib.ListN.{length}
 use lib.Dec.{eqb}
+use lib.Seq.{length-take-le}
 use Rattle.lists.specs.Choice.{pick}
 use Rattle.lists.specs.ChoiceLaws.{then-zero}
 use Rattle.lists.specs.Parts.{put}
 use Rattle.plan.specs.Plans.{planNumber}
 use Rattle.plan_text.specs.Reading.{textNumber, readNumber, planOf, noPlan, planRead}
 use Rattle.plan_text.specs.Listing.{listText, answerText}
+use Rattle.plan_text.specs.ListingLaws.{length-answerText}
+use Rattle.plan_text.specs.Needs.{Taken}
 use Rattle.plan_text.specs.Written.{Written}
 use Rattle.plan_text.proofs.list.answer.Statement.{statement}
 use Rattle.plan_text.proofs.list.answer.Tie as tie
@@ -28,9 +31,13 @@ planned c z =
     let t = c .before .before .args .text .now in
     ap (λ r. r .plan) (c .read-plan .ensures) ∙ ap (λ (n : ℕ). pick (eqb n 0) (planOf t) noPlan) (sym (numbered c) ∙ z)
 
--- a text written from the area's beginning on
-whole : (x y found area : List ℕ) (n : ℕ) → x ≡ y → Written x 0 found area n → (n ≡ length y) × (area ≡ put 0 y found)
-whole x y found area n e w = (omega (arith, w .reached, ap length e), w .filled ∙ ap (λ (l : List ℕ). put 0 l found) e)
+-- an answer written from the area's beginning on
+whole : (x t found area : List ℕ) (n : ℕ) → x ≡ answerText t → length found ≡ 512 → Written x 0 found area n
+    → (n ≡ length (answerText t)) × ((area ≡ put 0 (answerText t) found) × Taken n area)
+whole x t found area n e l w =
+    let m : n ≡ length (answerText t) = omega (arith, w .reached, ap length e) in
+    let h : n ≤ length area = omega (arith, w .same, length-answerText t) in
+    (m, (w .filled ∙ ap (λ (y : List ℕ). put 0 y found) e, record { within = h; counted = sym (length-take-le n area h) }))
 
 returns : tie.Need-returns
 unfolding answerText
@@ -38,7 +45,7 @@ returns c =
     let b = c .before .before .before in
     let r = b .before .before in
     let t = r .before .before .args .text .now in
-    whole _ _ _ _ _ (rw (← numbered r, ne-eqb _ 0 (b .if1 .taken))) (c .write-refusal .ensures)
+    whole _ t _ _ _ (rw (← numbered r, ne-eqb _ 0 (b .if1 .taken))) (search needs) (c .write-refusal .ensures)
 
 write-all-requires : tie.Need-write-all-requires
 unfolding readNumber
@@ -53,7 +60,7 @@ unfolding answerText
 returns-2 c =
     let r = c .before .before .before .before in
     let z = c .before .before .if1 .left in
-    whole _ _ _ _ _ (ap listText (planned r z) ∙ rw (← numbered r, eq-eqb _ 0 z)) (c .write-all .ensures)
+    whole _ (r .before .before .args .text .now) _ _ _ (ap listText (planned r z) ∙ rw (← numbered r, eq-eqb _ 0 z)) (search needs) (c .write-all .ensures)
 
 pub answer-spec : {M : Type 1} → statement M
 answer-spec = tie.close (tie.spec (λ c κs. search needs) (λ c. search needs) (λ c κs. search needs) returns write-all-requires returns-2)
