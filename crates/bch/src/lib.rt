@@ -1,0 +1,8 @@
+// The 192 BCH bits of a message, eight bits at a time.
+mod division;
+mod message;
+mod table;
+
+pub use division::Words;
+pub use message::of_bits;
+pub use message::of_octets;
