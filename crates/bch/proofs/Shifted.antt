@@ -1,6 +1,6 @@
 -- Eight bits more: the words shifted up by an octet, and the remainder of what the shift moves out.
-use mathlib.Core.Path.{_≡_, refl, sym, ap, ap₂, _∙_}
-use Prim.Native.Nat.{ℕ, _+_, _*_, _/_, _%_, _^_, _<_, _≤_}
+use mathlib.Core.Path.{_≡_, sym, ap, ap₂, _∙_}
+use Prim.Native.Nat.{ℕ, _+_, _*_, _/_, _%_, _^_, _<_}
 use native.Mathlib.Nat.{add-mul, mul-assoc, add-assoc, add-comm}
 use native.Mathlib.Omega.{arith}
 use lib.Arith.{digits-lt}

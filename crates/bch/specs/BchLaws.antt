@@ -1,10 +1,9 @@
 -- Laws of the BCH bits, over messages of any length: they are the remainder and the only one, they are additive,
 -- equal exactly where the generator divides the difference, and the cases worked by hand.
-use mathlib.Core.Path.{_≡_, refl, sym, ap, ap₂, _∙_}
+use mathlib.Core.Path.{_≡_, refl, sym, ap, _∙_}
 use mathlib.Core.List.{List, [], _∷_, _++_}
 use mathlib.Core.Logic.{_↔_}
-use Prim.Native.Nat.{ℕ, zero, suc, _+_, _*_, _^_, _<_}
-use native.Mathlib.Nat.{one-mul, zero-mul}
+use Prim.Native.Nat.{ℕ, _*_, _^_}
 use native.Mathlib.Omega.{arith}
 use lib.ListN.{length, replicate}
 use lib.Pow.{pow-pos}
@@ -16,12 +15,12 @@ use Rattle.bits.specs.Sums.{added}
 use Rattle.bits.specs.SumLaws.{length-added, added-bits}
 use Rattle.bch.specs.MoreDigits.{digits-zero}
 use Rattle.bch.specs.Polynomials.{_⊕_, Divides, polynomialOf}
-use Rattle.bch.specs.PolynomialLaws.{⊕-comm, ⊕-lt, ⊕-power}
+use Rattle.bch.specs.PolynomialLaws.{⊕-shifted, ⊕-power}
 use Rattle.bch.specs.Division.{IsRemainder, remainderOf}
-use Rattle.bch.specs.DivisionLaws.{divides-zero, divides-self, divides-power, divides-without, remainder-equal, remainder-only, remainder-small, remainder-top, remainder-⊕}
-use Rattle.bch.specs.MessageLaws.{polynomialOf-lt, polynomialOf-digits, polynomialOf-one, digits-polynomialOf, polynomialOf-zeros, polynomialOf-front, polynomialOf-added, digits-⊕, remainderOf-is, remainderOf-same}
+use Rattle.bch.specs.DivisionLaws.{divides-power, divides-without, remainder-equal, remainder-small, remainder-top, remainder-⊕}
+use Rattle.bch.specs.MessageLaws.{polynomialOf-lt, polynomialOf-digits, polynomialOf-one, digits-polynomialOf, polynomialOf-append, polynomialOf-zeros, polynomialOf-front, polynomialOf-added, digits-⊕, remainderOf-is, remainderOf-same}
 use Rattle.bch.specs.Bch.{generator, bchBits}
-use Rattle.bch.specs.GeneratorLaws.{generator-number, generator-top, generator-last}
+use Rattle.bch.specs.GeneratorLaws.{generator-top, generator-last}
 
 pub length-bchBits : (m : List ℕ) → length (bchBits m) ≡ 192
 unfolding bchBits
@@ -39,6 +38,12 @@ bits-polynomial m z = polynomialOf-digits 192 (remainderOf 192 generator m) (rem
 -- message times the 192nd power and the BCH bits make a multiple of the generator, and their degree is below 192
 pub bchBits-is-remainder : (m : List ℕ) → Bits m → IsRemainder 192 generator (polynomialOf m * 2 ^ 192) (polynomialOf (bchBits m))
 bchBits-is-remainder m z = rw (bits-polynomial m z) (remainderOf-is 192 generator generator-top m z)
+
+-- document 002, 2.2.1.4: the message with its BCH bits behind it, the codeword, is a multiple of the generator
+pub bchBits-codeword : (m : List ℕ) → Bits m → Divides generator (polynomialOf (m ++ bchBits m))
+bchBits-codeword m z =
+    let i = bchBits-is-remainder m z in
+    rw (polynomialOf-append m (bchBits m), length-bchBits m, ← ⊕-shifted 192 (polynomialOf m) (polynomialOf (bchBits m)) (i .small)) (i .divides)
 
 -- the remainder's number decides
 bits-of : (m : List ℕ) {d r : ℕ} → Bits m → polynomialOf m ≡ d → IsRemainder 192 generator (d * 2 ^ 192) r → bchBits m ≡ digits 192 r

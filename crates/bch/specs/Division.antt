@@ -4,8 +4,8 @@ use Prim.Native.Nat.{ℕ, zero, suc, _+_, _*_, _^_, _<_}
 use lib.ListN.{length}
 use Rattle.bch.specs.Polynomials.{_⊕_, coefficient, Divides, polynomialOf}
 
--- long division of d, of degree below n + k: each term from the power n + k - 1 down to n is taken off by a
--- multiple of g; what is left is the remainder
+-- document 002, 2.2.1.4 (1): the division with g as the divisor, and its remainder. Long division of d, of a degree
+-- below n + k: each term from the power n + k - 1 down to n is taken off by a multiple of g
 unfoldable pub remainder : ℕ → ℕ → ℕ → ℕ → ℕ
 remainder n g zero d = d
 remainder n g (suc k) d = remainder n g k (coefficient (n + k) d * (g * 2 ^ k) ⊕ d)

@@ -5,7 +5,7 @@ use Prim.Native.Nat.{ℕ, zero, suc, _+_, _*_, _/_, _%_, _^_, _<_}
 use native.Mathlib.Nat.{add-zero, add-comm, mul-one, one-mul, zero-mul, zero-div, mod-eq-of-lt, div-eq-of-lt, div-lt-iff-lt-mul}
 use native.Mathlib.Omega.{arith}
 use lib.Arith.{bin-ind}
-use lib.Pow.{pow-pos, pow-add, shr-shr, shl-shr, shr-lt}
+use lib.Pow.{pow-pos, shr-shr, shl-shr, shr-lt}
 use Rattle.bch.specs.Polynomials.{_⊕_, _⊗_, coefficient, Divides}
 use Rattle.bch.specs.PolynomialLaws.{⊕-none, ⊕-zero, ⊕-self, ⊕-comm, ⊕-lt, ⊕-high, ⊕-power, ⊕-last, ⊕-assoc, ⊕-swap, ⊕-across, ⊕-equal, ⊗-none, ⊗-step, ⊗-bit, ⊗-⊕, ⊗-power, power-more}
 use Rattle.bch.specs.Division.{remainder, IsRemainder}

@@ -1,7 +1,6 @@
 -- The generator, computed: its number, its degree and its constant term.
 use mathlib.Core.Path.{_≡_, refl}
-use mathlib.Core.List.{map}
-use Prim.Native.Nat.{ℕ, _/_, _%_, _^_}
+use Prim.Native.Nat.{_/_, _%_, _^_}
 use Rattle.bch.specs.Polynomials.{_⊕_, _⊗_, lowTimes, withExponents, product}
 use Rattle.bch.specs.Bch.{exponents, generator}
 

@@ -8,3 +8,4 @@ pub mod Bch
 pub mod GeneratorLaws
 pub mod BchLaws
 pub mod Words
+pub mod Needs

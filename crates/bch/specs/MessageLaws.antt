@@ -4,8 +4,8 @@ use mathlib.Core.List.{List, [], _∷_, _++_, append-nil}
 use Prim.Native.Nat.{ℕ, zero, suc, _+_, _*_, _/_, _%_, _^_, _<_, _≤_}
 use native.Mathlib.Nat.{zero-mul, mul-right-comm}
 use native.Mathlib.Omega.{arith}
-use lib.ListN.{length, getD, drop, replicate, length-append, length-replicate}
-use lib.Pow.{shl-lt, pow-add}
+use lib.ListN.{length, getD, replicate, length-append}
+use lib.Pow.{shl-lt}
 use lib.Seq.{drop-at, take-length}
 use Rattle.lists.specs.Runs.{Bits}
 use Rattle.lists.specs.RunLaws.{below-append}
@@ -13,11 +13,11 @@ use Rattle.bits.specs.Digits.{digits, number}
 use Rattle.bits.specs.DigitLaws.{length-digits, number-lt, number-append, number-of-digits, digits-number}
 use Rattle.bits.specs.Sums.{added}
 use Rattle.bits.specs.SumLaws.{length-added, getD-added, added-append}
-use Rattle.bch.specs.MoreDigits.{digits-none, number-add, number-zeros}
+use Rattle.bch.specs.MoreDigits.{number-add, number-zeros}
 use Rattle.bch.specs.Polynomials.{_⊕_, polynomialOf}
 use Rattle.bch.specs.PolynomialLaws.{⊕-none, ⊕-lt, ⊕-high, ⊕-last, ⊕-bits, ⊕-block, ⊕-shifted, ⊕-power}
 use Rattle.bch.specs.Division.{remainder, IsRemainder, remainderOf}
-use Rattle.bch.specs.DivisionLaws.{Congruent, same-congruent, congruent, congruent-⊕, congruent-power, congruent-then, remainder-is, remainder-only, remainder-same, remainder-across}
+use Rattle.bch.specs.DivisionLaws.{Congruent, same-congruent, congruent, congruent-⊕, congruent-power, congruent-then, remainder-is, remainder-only, remainder-across}
 
 pub polynomialOf-lt : (u : List ℕ) → Bits u → polynomialOf u < 2 ^ length u
 unfolding polynomialOf
@@ -71,10 +71,6 @@ digits-⊕ (suc n) a b =
 message-lt : (n : ℕ) (m : List ℕ) → Bits m → polynomialOf m * 2 ^ n < 2 ^ (n + length m)
 message-lt n m z = let e : n + length m ≡ length m + n = omega arith in rw e (shl-lt (length m) n (polynomialOf-lt m z))
 
-pub remainderOf-none : (n g : ℕ) → remainderOf n g [] ≡ 0
-unfolding remainderOf remainder polynomialOf number
-remainderOf-none n g = zero-mul (2 ^ n)
-
 -- division by a g of degree n
 module _ (n g : ℕ) (top : g / 2 ^ n ≡ 1) where
   pub remainderOf-is : (m : List ℕ) → Bits m → IsRemainder n g (polynomialOf m * 2 ^ n) (remainderOf n g m)
@@ -98,3 +94,8 @@ module _ (n g : ℕ) (top : g / 2 ^ n ≡ 1) where
       let c : Congruent g ((polynomialOf u * 2 ^ k + polynomialOf v) * 2 ^ n) d
       = congruent-then (same-congruent g e) (congruent-⊕ (congruent-power k (congruent i)) (same-congruent g refl)) in
       remainderOf-same (u ++ v) (below-append 1 u v y z) (polynomialOf-append u v) (remainder-across c (remainder-is n g top k d l))
+
+-- of no message
+pub remainderOf-none : (n g : ℕ) → remainderOf n g [] ≡ 0
+unfolding remainderOf remainder polynomialOf number
+remainderOf-none n g = zero-mul (2 ^ n)

@@ -5,16 +5,12 @@ use Prim.Native.Nat.{ℕ, zero, suc, _+_, _*_, _/_, _%_, _^_, _<_}
 use native.Mathlib.Nat.{add-zero, mul-assoc, div-one, pow-suc}
 use native.Mathlib.Numerals.{add-one}
 use native.Mathlib.Omega.{arith}
-use lib.ListN.{getD, drop, replicate, replicate-append-replicate}
+use lib.ListN.{drop, replicate, replicate-append-replicate}
 use lib.Pow.{shr-shr, high, low}
 use lib.Seq.{getD-drop, take-all}
 use Rattle.lists.specs.RunLaws.{below-replicate}
 use Rattle.bits.specs.Digits.{digits, number}
 use Rattle.bits.specs.DigitLaws.{length-digits, digits-bits, number-digits, digits-number}
-
-pub digits-none : (x : ℕ) → digits 0 x ≡ []
-unfolding digits
-digits-none x = refl
 
 -- only the n lowest digits count
 pub digits-low : (n x : ℕ) → digits n (x % 2 ^ n) ≡ digits n x

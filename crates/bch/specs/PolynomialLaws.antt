@@ -1,7 +1,7 @@
 -- Laws of the sum and the product of polynomials over GF(2).
 use mathlib.Core.Path.{_≡_, refl, sym, ap, ap₂, _∙_}
 use Prim.Native.Nat.{ℕ, zero, suc, _+_, _*_, _/_, _%_, _^_, _≤_, _<_}
-use native.Mathlib.Nat.{not-suc-le-zero, le-refl, add-zero, add-assoc, zero-mul, one-mul, mul-one, mul-assoc, pow-suc}
+use native.Mathlib.Nat.{not-suc-le-zero, le-refl, add-zero, zero-mul, mul-one, mul-assoc, pow-suc}
 use native.Mathlib.Decide.{le-ind}
 use native.Mathlib.Omega.{arith}
 use lib.Arith.{bin-ind, half-le}

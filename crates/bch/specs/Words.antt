@@ -1,10 +1,8 @@
--- What the code works with: a remainder in three words, the constant table, and what the functions ask.
+-- What the code works with: a remainder in three words, and the constant table.
 use mathlib.Core.Path.{_≡_}
 use mathlib.Core.List.{List, [], _∷_}
-use Prim.Native.Nat.{ℕ, _+_, _*_, _^_, _<_}
-use lib.ListN.{length}
+use Prim.Native.Nat.{ℕ, _+_, _*_, _^_}
 use Rattle.lists.specs.Count.{table}
-use Rattle.lists.specs.Runs.{Bits}
 use Rattle.bch.specs.Division.{remainder}
 use Rattle.bch.specs.Bch.{generator}
 use Rattle.bch.specs.declared.division.Words.{Words}
@@ -13,6 +11,7 @@ use Rattle.bch.specs.declared.division.Words.{Words}
 abbrev pub inWords : ℕ → ℕ → ℕ → ℕ
 inWords high middle low = (high * 2 ^ 64 + middle) * 2 ^ 64 + low
 
+-- the polynomial that a value of the code stands for
 abbrev pub worth : Words → ℕ
 worth w = inWords (w .high) (w .middle) (w .low)
 
@@ -26,18 +25,3 @@ threes (a ∷ b ∷ c ∷ t) = inWords a b c ∷ threes t
 -- the table has for each octet the remainder of its eight bits as a message
 pub record Table (t : List ℕ) : Type 0 where
   pub rule : threes t ≡ table 256 (λ i. remainder 192 generator 8 (i * 2 ^ 192))
-
--- the table, and an octet
-pub record Entry (t : List ℕ) (octet : ℕ) : Type 0 where
-  pub table : Table t
-  pub within : octet < 256
-
--- the table, and a run of bits
-pub record BitsTable (t run : List ℕ) : Type 0 where
-  pub table : Table t
-  pub bits : Bits run
-
--- a run of bits, and an area for its BCH bits
-pub record BitsRun (run bch : List ℕ) : Type 0 where
-  pub bits : Bits run
-  pub area : length bch ≡ 192

@@ -4,7 +4,8 @@ ghost use Prim.Native.Nat.{_*_, _^_};
 ghost use Rattle.bch.specs.Polynomials.{_⊕_};
 ghost use Rattle.bch.specs.Division.{remainder};
 ghost use Rattle.bch.specs.Bch.{generator};
-ghost use Rattle.bch.specs.Words.{worth, Entry};
+ghost use Rattle.bch.specs.Words.{worth};
+ghost use Rattle.bch.specs.Needs.{Entry};
 
 // A polynomial of a degree below 192, highest powers first.
 pub struct Words {
@@ -12,6 +13,13 @@ pub struct Words {
     pub middle: u64,
     pub low: u64,
 }
+
+// Where every division begins: the remainder of no message.
+pub const NONE: Words = Words {
+    high: 0,
+    middle: 0,
+    low: 0,
+};
 
 // The remainder of eight bits as a message.
 fn entry(table: &[u64; 768], octet: usize) -> Words

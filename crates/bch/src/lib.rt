@@ -3,6 +3,5 @@ mod division;
 mod message;
 mod table;
 
-pub use division::Words;
 pub use message::of_bits;
 pub use message::of_octets;

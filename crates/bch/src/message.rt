@@ -5,7 +5,8 @@ ghost use Rattle.bits.specs.Digits.{digits};
 ghost use Rattle.bits.specs.Octets.{bitsOf};
 ghost use Rattle.bch.specs.Division.{remainderOf};
 ghost use Rattle.bch.specs.Bch.{generator, bchBits};
-ghost use Rattle.bch.specs.Words.{worth, Table, BitsTable, BitsRun};
+ghost use Rattle.bch.specs.Words.{worth, Table};
+ghost use Rattle.bch.specs.Needs.{Divided, Message};
 use crate::division;
 use crate::division::Words;
 use crate::table;
@@ -15,11 +16,7 @@ fn divide_octets(table: &[u64; 768], octets: &[u8]) -> Words
     requires { ⌜ Table (now table) ⌝ }
     ensures { λ r. ⌜ worth r ≡ remainderOf 192 generator (bitsOf (now (octets .entry))) ⌝ }
 {
-    let mut rest = Words {
-        high: 0,
-        middle: 0,
-        low: 0,
-    };
+    let mut rest = division::NONE;
     let mut i: usize = 0;
     while i < octets.len() {
         rest = division::advance(table, rest, lists::wide(octets[i]));
@@ -28,19 +25,14 @@ fn divide_octets(table: &[u64; 768], octets: &[u8]) -> Words
     rest
 }
 
-// The remainder of a message of bits. The bits before the last whole eights go first, as the low bits of an octet:
-// zeros in front of a message change nothing.
+// The remainder of a message of bits. The bits before the whole eights, less than eight, go first, as the low bits
+// of an octet: zeros in front of a message change nothing.
 fn divide_bits(table: &[u64; 768], run: &[u8]) -> Words
-    requires { ⌜ BitsTable (now table) (now run) ⌝ }
+    requires { ⌜ Divided (now table) (now run) ⌝ }
     ensures { λ r. ⌜ worth r ≡ remainderOf 192 generator (now (run .entry)) ⌝ }
 {
-    let none = Words {
-        high: 0,
-        middle: 0,
-        low: 0,
-    };
     let mut at = run.len() % 8;
-    let mut rest = division::advance(table, none, bits::gather(&run[0..at]));
+    let mut rest = division::advance(table, division::NONE, bits::gather(&run[0..at]));
     while at < run.len() {
         let end = at + 8;
         rest = division::advance(table, rest, bits::gather(&run[at..end]));
@@ -70,7 +62,7 @@ pub fn of_octets(octets: &[u8], bch: &mut [u8])
 
 // The BCH bits of a message of bits, whatever their number.
 pub fn of_bits(run: &[u8], bch: &mut [u8])
-    requires { ⌜ BitsRun (now run) (now bch) ⌝ }
+    requires { ⌜ Message (now run) (now bch) ⌝ }
     ensures { λ _. ⌜ now (bch .exit) ≡ bchBits (now (run .entry)) ⌝ }
 {
     let table = table::remainders();

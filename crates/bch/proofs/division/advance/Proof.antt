@@ -1,5 +1,5 @@
 -- `bch::division::advance`: the words shifted, and the table's entry for what the shift moves out with the octet.
-use Prim.Native.Nat.{ℕ, _/_, _^_, _<_}
+use Prim.Native.Nat.{_/_, _^_}
 use native.Mathlib.Omega.{arith}
 use Rattle.bch.specs.Polynomials.{_⊕_}
 use Rattle.bch.specs.PolynomialLaws.{⊕-lt}

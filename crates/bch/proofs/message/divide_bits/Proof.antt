@@ -1,13 +1,11 @@
 -- `bch::message::divide_bits`: the remainder of the bits passed; whole eights are left.
-use mathlib.Core.Path.{_≡_, refl, sym, ap, _∙_}
+use mathlib.Core.Path.{_≡_, ap, _∙_}
 use mathlib.Core.List.{List}
-use Prim.Native.Nat.{ℕ, _+_, _*_, _-_, _%_, _≤_, _<_}
+use Prim.Native.Nat.{ℕ, _+_, _-_, _%_, _≤_}
 use native.Mathlib.Omega.{arith}
 use lib.ListN.{length, take, drop, length-take, length-drop}
 use lib.Seq.{take-all}
 use Rattle.lists.specs.RunLaws.{below-take, below-drop, below-part}
-use Rattle.bits.specs.Digits.{number}
-use Rattle.bits.specs.Needs.{OfBits}
 use Rattle.bch.specs.Division.{remainderOf}
 use Rattle.bch.specs.Bch.{generator}
 use Rattle.bch.specs.declared.division.Words.{Words}
