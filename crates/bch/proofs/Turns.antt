@@ -96,6 +96,6 @@ words-stored xs u v w a b c l hb hc eu ev ew =
     (ap length eu ∙ length-digits 64 a) (ap length ev ∙ length-digits 64 b) (ap length ew ∙ length-digits 64 c)
     ∙ sym
     (digits-above 128 64 (a * 2 ^ 64 + b) c hc
-    ∙ ap (λ (l : List ℕ). l ++ digits 64 c) (digits-above 64 64 a b hb)
+    ∙ ap (λ (d : List ℕ). d ++ digits 64 c) (digits-above 64 64 a b hb)
     ∙ append-assoc (digits 64 a) (digits 64 b) (digits 64 c)
     ∙ cc)

@@ -27,5 +27,4 @@ bits-line-spec =
     (λ c κs. search needs)
     (λ c. search needs)
     (λ c. search needs)
-    (λ c. search needs)
-    )
+    (λ c. search needs))

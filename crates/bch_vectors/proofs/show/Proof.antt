@@ -29,5 +29,4 @@ show-spec =
     (λ c. search needs)
     (λ c κs. search needs)
     (λ c. search needs)
-    (λ c. search needs)
-    )
+    (λ c. search needs))

@@ -28,5 +28,4 @@ advance-spec =
     tie.close
     (tie.spec
     entry-requires
-    returns
-    )
+    returns)

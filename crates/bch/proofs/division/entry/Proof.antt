@@ -1,6 +1,6 @@
 -- `bch::division::entry`: the table's rule at the octet.
-use Rattle.bch.proofs.Entries.{entry-rule}
 use borrow.Author.Needs.{needs}
+use Rattle.bch.proofs.Entries.{entry-rule}
 use Rattle.bch.proofs.division.entry.Statement.{statement}
 use Rattle.bch.proofs.division.entry.Tie as tie
 
@@ -22,5 +22,4 @@ entry-spec =
     (λ c. search needs)
     (λ c. search needs)
     (λ c. search needs)
-    returns
-    )
+    returns)

@@ -5,13 +5,13 @@ use Prim.Native.Nat.{ℕ, _+_, _-_, _%_, _≤_}
 use native.Mathlib.Omega.{arith}
 use lib.ListN.{length, take, drop, length-take, length-drop}
 use lib.Seq.{take-all}
+use borrow.Author.Needs.{needs}
 use Rattle.lists.specs.RunLaws.{below-take, below-drop, below-part}
 use Rattle.bch.specs.Division.{remainderOf}
 use Rattle.bch.specs.Bch.{generator}
 use Rattle.bch.specs.declared.division.Words.{Words}
 use Rattle.bch.specs.Words.{worth}
 use Rattle.bch.proofs.Turns.{eight-more, first-few, few-lt, gathered}
-use borrow.Author.Needs.{needs}
 use Rattle.bch.proofs.message.divide_bits.Statement.{statement}
 use Rattle.bch.proofs.message.divide_bits.Tie as tie
 
@@ -95,5 +95,4 @@ divide-bits-spec =
     advance-requires-2
     (λ c. search needs)
     loop-again
-    returns
-    )
+    returns)

@@ -4,6 +4,7 @@ use Prim.Native.Nat.{ℕ, _+_, _*_, _-_, _≤_, _<_}
 use native.Mathlib.Omega.{arith}
 use lib.ListN.{length, take}
 use lib.Seq.{take-all}
+use borrow.Author.Needs.{needs}
 use Rattle.bits.specs.Octets.{bitsOf}
 use Rattle.bits.specs.OctetLaws.{length-bitsOf, bitsOf-bits}
 use Rattle.bch.specs.Division.{remainderOf}
@@ -11,7 +12,6 @@ use Rattle.bch.specs.MessageLaws.{remainderOf-none}
 use Rattle.bch.specs.Bch.{generator}
 use Rattle.bch.specs.Words.{worth}
 use Rattle.bch.proofs.Turns.{eight-more, octet-number}
-use borrow.Author.Needs.{needs}
 use Rattle.bch.proofs.message.divide_octets.Statement.{statement}
 use Rattle.bch.proofs.message.divide_octets.Tie as tie
 
@@ -56,5 +56,4 @@ divide-octets-spec =
     (λ c. search needs)
     (λ c. search needs)
     loop-again
-    returns
-    )
+    returns)

@@ -1,6 +1,6 @@
 -- `bch::message::of_octets`: the remainder's coefficients are the BCH bits.
-use Rattle.bch.specs.Bch.{bchBits}
 use borrow.Author.Needs.{needs}
+use Rattle.bch.specs.Bch.{bchBits}
 use Rattle.bch.proofs.message.of_octets.Statement.{statement}
 use Rattle.bch.proofs.message.of_octets.Tie as tie
 
@@ -16,5 +16,4 @@ of-octets-spec =
     (λ c κs. search needs)
     (λ c κs. search needs)
     (λ c. search needs)
-    returns
-    )
+    returns)

@@ -1,9 +1,9 @@
 -- `bch::message::put`: three words, one behind the other.
 use mathlib.Core.Path.{_≡_}
 use borrow.Rule.Slice.PartMut.{putMid}
+use borrow.Author.Needs.{needs}
 use Rattle.bits.specs.Digits.{digits}
 use Rattle.bch.proofs.Turns.{word-part, words-stored}
-use borrow.Author.Needs.{needs}
 use Rattle.bch.proofs.message.put.Statement.{statement}
 use Rattle.bch.proofs.message.put.Tie as tie
 
@@ -42,5 +42,4 @@ put-spec =
     (λ c. search needs)
     (λ c κs. search needs)
     (λ c. search needs)
-    returns
-    )
+    returns)

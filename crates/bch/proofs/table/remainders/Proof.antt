@@ -16,5 +16,4 @@ pub remainders-spec : {M : Type 1} → statement M
 remainders-spec =
     tie.close
     (tie.spec
-    returns
-    )
+    returns)
