@@ -3,19 +3,19 @@ use mathlib.Core.Path.{_≡_, sym, ap, _∙_}
 use mathlib.Core.List.{List, [], _++_, append-assoc, append-nil}
 use Prim.Native.Nat.{ℕ, _+_, _-_, _*_, _^_, _<_, _≤_}
 use native.Mathlib.Omega.{arith}
-use lib.ListN.{length, getD, take, drop, length-append, length-drop}
+use lib.ListN.{length, getD, take, drop, length-drop}
 use lib.Pow.{pow-mono, shl-lt}
 use lib.Seq.{take-add, length-take-le}
 use borrow.Rule.Slice.PartMut.{putMid}
-use Rattle.lists.specs.Parts.{part, put}
-use Rattle.lists.specs.PartLaws.{length-part, put-lent, put-put, put-whole}
+use Rattle.lists.specs.Parts.{part}
+use Rattle.lists.specs.PartLaws.{length-part, three-parts}
 use Rattle.lists.specs.Runs.{Bits}
 use Rattle.lists.specs.RunLaws.{below-take, below-drop}
 use Rattle.bits.specs.Digits.{digits, number}
 use Rattle.bits.specs.DigitLaws.{length-digits, number-lt, number-take, number-of-digits}
 use Rattle.bits.specs.Octets.{bitsOf}
 use Rattle.bits.specs.OctetLaws.{bitsOf-at}
-use Rattle.bch.specs.MoreDigits.{digits-above}
+use Rattle.bits.specs.DigitParts.{digits-above}
 use Rattle.bch.specs.Polynomials.{_⊕_, polynomialOf}
 use Rattle.bch.specs.PolynomialLaws.{⊕-none}
 use Rattle.bch.specs.Division.{remainder, remainderOf}
@@ -70,22 +70,6 @@ first-few u at x q z h l e j =
 -- the digits that `spread` leaves in a part
 pub word-part : (a e : ℕ) (xs ys : List ℕ) (x : ℕ) → e ≤ length xs → ys ≡ digits (length (part a e xs)) x → ys ≡ digits (e - a) x
 word-part a e xs ys x h d = d ∙ ap (λ (n : ℕ). digits n x) (length-part a e xs h)
-
--- three parts stored one behind the other, to the places p, q and r
-three-parts : (xs a b c : List ℕ) (p q r : ℕ) → length xs ≡ r → p ≤ q → q ≤ r → length a ≡ p - 0 → length b ≡ q - p → length c ≡ r - q
-    → putMid q (r - q) (putMid p (q - p) (putMid 0 (p - 0) xs a) b) c ≡ a ++ (b ++ c)
-three-parts xs a b c p q r l h k la lb lc =
-    let ab = length-append a b in
-    let abc = length-append (a ++ b) c in
-    let m : p ≡ 0 + length a = omega arith in
-    let n : q ≡ 0 + length (a ++ b) = omega arith in
-    rw (put-lent 0 p xs a (omega arith) la, put-lent p q (put 0 a xs) b h lb, put-lent q r (put p b (put 0 a xs)) c k lc)
-    (ap (λ (i : ℕ). put q c (put i b (put 0 a xs))) m
-    ∙ ap (put q c) (put-put 0 a b xs (omega arith))
-    ∙ ap (λ (i : ℕ). put i c (put 0 (a ++ b) xs)) n
-    ∙ put-put 0 (a ++ b) c xs (omega arith)
-    ∙ put-whole ((a ++ b) ++ c) xs (omega arith)
-    ∙ append-assoc a b c)
 
 -- the words of a remainder stored
 pub words-stored : (xs u v w : List ℕ) (a b c : ℕ) → length xs ≡ 192 → b < 2 ^ 64 → c < 2 ^ 64

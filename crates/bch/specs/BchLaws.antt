@@ -13,7 +13,7 @@ use Rattle.bits.specs.Digits.{digits, number}
 use Rattle.bits.specs.DigitLaws.{length-digits, digits-bits}
 use Rattle.bits.specs.Sums.{added}
 use Rattle.bits.specs.SumLaws.{length-added, added-bits}
-use Rattle.bch.specs.MoreDigits.{digits-zero}
+use Rattle.bits.specs.DigitParts.{digits-zero}
 use Rattle.bch.specs.Polynomials.{_⊕_, Divides, polynomialOf}
 use Rattle.bch.specs.PolynomialLaws.{⊕-shifted, ⊕-power}
 use Rattle.bch.specs.Division.{IsRemainder, remainderOf}

@@ -1,4 +1,3 @@
-pub mod MoreDigits
 pub mod Polynomials
 pub mod PolynomialLaws
 pub mod Division

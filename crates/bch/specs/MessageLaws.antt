@@ -13,7 +13,7 @@ use Rattle.bits.specs.Digits.{digits, number}
 use Rattle.bits.specs.DigitLaws.{length-digits, number-lt, number-append, number-of-digits, digits-number}
 use Rattle.bits.specs.Sums.{added}
 use Rattle.bits.specs.SumLaws.{length-added, getD-added, added-append}
-use Rattle.bch.specs.MoreDigits.{number-add, number-zeros}
+use Rattle.bits.specs.DigitParts.{number-add, number-zeros}
 use Rattle.bch.specs.Polynomials.{_⊕_, polynomialOf}
 use Rattle.bch.specs.PolynomialLaws.{⊕-none, ⊕-lt, ⊕-high, ⊕-last, ⊕-bits, ⊕-block, ⊕-shifted, ⊕-power}
 use Rattle.bch.specs.Division.{remainder, IsRemainder, remainderOf}

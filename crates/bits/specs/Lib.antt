@@ -1,5 +1,6 @@
 pub mod Digits
 pub mod DigitLaws
+pub mod DigitParts
 pub mod Octets
 pub mod OctetLaws
 pub mod Sums

@@ -74,3 +74,19 @@ put-lent a e xs ys h l = let m : a + length ys ≡ e = omega arith in rw (post-i
 pub put-whole : (ys xs : List ℕ) → length ys ≡ length xs → put 0 ys xs ≡ ys
 unfolding put
 put-whole ys xs l = let k : length xs ≤ 0 + length ys = omega arith in rw (drop-of-length-le xs k) (append-nil ys)
+
+-- three parts stored one behind the other, to the places p, q and r
+pub three-parts : (xs a b c : List ℕ) (p q r : ℕ) → length xs ≡ r → p ≤ q → q ≤ r → length a ≡ p - 0 → length b ≡ q - p → length c ≡ r - q
+    → putMid q (r - q) (putMid p (q - p) (putMid 0 (p - 0) xs a) b) c ≡ a ++ (b ++ c)
+three-parts xs a b c p q r l h k la lb lc =
+    let ab = length-append a b in
+    let abc = length-append (a ++ b) c in
+    let m : p ≡ 0 + length a = omega arith in
+    let n : q ≡ 0 + length (a ++ b) = omega arith in
+    rw (put-lent 0 p xs a (omega arith) la, put-lent p q (put 0 a xs) b h lb, put-lent q r (put p b (put 0 a xs)) c k lc)
+    (ap (λ (i : ℕ). put q c (put i b (put 0 a xs))) m
+    ∙ ap (put q c) (put-put 0 a b xs (omega arith))
+    ∙ ap (λ (i : ℕ). put i c (put 0 (a ++ b) xs)) n
+    ∙ put-put 0 (a ++ b) c xs (omega arith)
+    ∙ put-whole ((a ++ b) ++ c) xs (omega arith)
+    ∙ append-assoc a b c)

@@ -1,6 +1,8 @@
 // Openings and passes, each with its number and the slot and register of its state.
 use libc::STDOUT_FILENO;
-use plan::{Answer, FrameState, Plan};
+use plan::Answer;
+use plan::FrameState;
+use plan::Plan;
 
 fn show(name: &[u8], answer: Answer) {
     let state = answer.state;
@@ -32,13 +34,28 @@ fn nine_groups() -> Plan {
 
 fn openings() {
     show(b"open", plan::open(example(), 16777216, 1));
-    show(b"open with nine groups", plan::open(nine_groups(), 16777216, 1));
+    show(
+        b"open with nine groups",
+        plan::open(nine_groups(), 16777216, 1),
+    );
     show(b"open with mask 2^25", plan::open(example(), 33554432, 1));
-    show(b"open with mask 2^25 - 1", plan::open(example(), 33554431, 1));
-    show(b"open with mask 2^24 - 1", plan::open(example(), 16777215, 1));
+    show(
+        b"open with mask 2^25 - 1",
+        plan::open(example(), 33554431, 1),
+    );
+    show(
+        b"open with mask 2^24 - 1",
+        plan::open(example(), 16777215, 1),
+    );
     show(b"open with start 0", plan::open(example(), 16777216, 0));
-    show(b"open with start 2^25", plan::open(example(), 16777216, 33554432));
-    show(b"open with start 2^25 - 1", plan::open(example(), 16777216, 33554431));
+    show(
+        b"open with start 2^25",
+        plan::open(example(), 16777216, 33554432),
+    );
+    show(
+        b"open with start 2^25 - 1",
+        plan::open(example(), 16777216, 33554431),
+    );
 }
 
 // The example's state at a slot, with a register.
@@ -62,8 +79,14 @@ fn passes() {
     show(b"pass at slot 120", plan::pass(state_at(120, 5)));
     show(b"pass at slot 121", plan::pass(state_at(121, 5)));
     show(b"pass with register 0", plan::pass(state_at(93, 0)));
-    show(b"pass with register 2^25", plan::pass(state_at(93, 33554432)));
-    show(b"pass at slot 121 with register 0", plan::pass(state_at(121, 0)));
+    show(
+        b"pass with register 2^25",
+        plan::pass(state_at(93, 33554432)),
+    );
+    show(
+        b"pass at slot 121 with register 0",
+        plan::pass(state_at(121, 0)),
+    );
 }
 
 pub fn run() {
