@@ -114,13 +114,19 @@ def specification(all_tables):
 
 
 def code(all_tables):
-    flat = [number for table in all_tables for row in table for number in [len(row)] + row]
-    lines = [
-        "// The eleven tables end to end, each row's count and then its addresses.",
-        "// Written by tools/parity_tables.py; docs/TABLES.md tells how each was settled.",
-        f"pub const TABLES: [u16; {len(flat)}] = [",
-    ]
-    return "\n".join(lines + [f"    {number}," for number in flat] + ["];"]) + "\n"
+    flat = [[number for row in table for number in [len(row)] + row] for table in all_tables]
+    starts = [sum(len(table) for table in flat[:k]) for k in range(12)]
+    return (
+        "// Written by tools/parity_tables.py; docs/TABLES.md tells how each table was settled.\n"
+        + array("Where each table starts among all, and where the last ends.", "STARTS", "usize", starts)
+        + "\n"
+        + array("The eleven tables end to end, each row's count and then its addresses.", "TABLES", "u16", sum(flat, []))
+    )
+
+
+def array(comment, name, kind, values):
+    lines = [f"// {comment}", f"pub const {name}: [{kind}; {len(values)}] = ["]
+    return "\n".join(lines + [f"    {value}," for value in values] + ["];"]) + "\n"
 
 
 def main(arguments):

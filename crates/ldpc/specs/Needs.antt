@@ -4,7 +4,7 @@ use mathlib.Core.Bool.{true}
 use mathlib.Core.List.{List}
 use Prim.Native.Nat.{ℕ, _+_, _*_, _%_, _<_, _≤_}
 use lib.ListN.{length, getD}
-use Rattle.ldpc.specs.Tables.{spacing, positions, tableOk}
+use Rattle.ldpc.specs.Tables.{positions, tableOk}
 
 -- a number of rows that leaves parity positions
 pub record Rows (rows : ℕ) : Type 0 where

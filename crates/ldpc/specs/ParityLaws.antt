@@ -8,14 +8,14 @@ use native.Mathlib.Nat.{mod-add-mod, mod-eq-of-lt, mod-eq-sub-mod, mod-lt, suc-m
 use native.Mathlib.Decide.{ℕ-discrete, decLt}
 use native.Mathlib.Numerals.{add-one}
 use native.Mathlib.Omega.{arith}
-use borrow.Author.Tests.{le-leb, lt-leb, eq-eqb, eqb-true, ne-eqb}
-use lib.Dec.{eqb, leb}
+use borrow.Author.Tests.{le-leb, lt-leb, eq-eqb, ne-eqb}
+use lib.Dec.{eqb}
 use lib.ListN.{length, getD, List·getD-eq-default}
 use lib.Seq.{ext-getD}
 use Rattle.lists.specs.Choice.{pick}
 use Rattle.lists.specs.ChoiceLaws.{clash}
-use Rattle.lists.specs.Count.{sum, first, table}
-use Rattle.lists.specs.CountLaws.{sum-none, sum-more, sum-same, length-table, getD-table, table-is, table-same, First, first-first, first-is}
+use Rattle.lists.specs.Count.{sum}
+use Rattle.lists.specs.CountLaws.{sum-none, sum-more, length-table, getD-table, table-is, first-first, first-is}
 use Rattle.lists.specs.Runs.{Bits}
 use Rattle.bits.specs.Sums.{added}
 use Rattle.bits.specs.SumLaws.{length-added, getD-added}

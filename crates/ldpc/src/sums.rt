@@ -1,9 +1,7 @@
 // Parity: the bits are added to the positions that they reach, and the sums run on.
 ghost use mathlib.Core.Path.{_≡_};
-ghost use Prim.Native.Nat.{ℕ, _*_, _%_};
 ghost use lib.ListN.{length, getD};
 ghost use Rattle.lists.specs.Count.{table as tabled};
-ghost use Rattle.ldpc.specs.Tables.{spacing, positions};
 ghost use Rattle.ldpc.specs.Parity.{less, bitTimes, rowTimes, times, running, parityOf};
 ghost use Rattle.ldpc.specs.Needs.{Ready, BitReady, RowReady, Added};
 
@@ -74,11 +72,11 @@ fn run_sums(sums: &mut [u8])
     ensures { λ _. ⌜ now (sums .exit) ≡ tabled (length (now (sums .entry))) (running (λ k. getD (now (sums .entry)) k 0)) ⌝ }
 {
     let mut last: u64 = 0;
-    let mut i: usize = 0;
-    while i < sums.len() {
-        last = (last + lists::wide(sums[i])) % 2;
-        sums[i] = last as u8;
-        i += 1;
+    let mut position: usize = 0;
+    while position < sums.len() {
+        last = (last + lists::wide(sums[position])) % 2;
+        sums[position] = last as u8;
+        position += 1;
     }
 }
 

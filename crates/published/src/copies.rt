@@ -5,28 +5,13 @@ ghost use lib.ListN.{length};
 ghost use Rattle.lists.specs.Count.{joined};
 ghost use Rattle.lists.specs.CountLaws.{joinedAt};
 ghost use Rattle.published.specs.Published.{tableAt, Copied};
+use crate::data::STARTS;
 use crate::data::TABLES;
 
 // Document 01's refusal numbers.
 const PLAN: u8 = 1;
 
 const LENGTH: u8 = 4;
-
-// Where each table starts among all, and where the last ends.
-const STARTS: [usize; 12] = [
-    0,
-    278,
-    611,
-    967,
-    1369,
-    1801,
-    2262,
-    2733,
-    3198,
-    3679,
-    4189,
-    4628,
-];
 
 // Where the table of rate k + 1 starts, and at 11 the end of the last.
 fn start(k: usize) -> usize

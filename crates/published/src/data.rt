@@ -1,5 +1,21 @@
+// Written by tools/parity_tables.py; docs/TABLES.md tells how each table was settled.
+// Where each table starts among all, and where the last ends.
+pub const STARTS: [usize; 12] = [
+    0,
+    278,
+    611,
+    967,
+    1369,
+    1801,
+    2262,
+    2733,
+    3198,
+    3679,
+    4189,
+    4628,
+];
+
 // The eleven tables end to end, each row's count and then its addresses.
-// Written by tools/parity_tables.py; docs/TABLES.md tells how each was settled.
 pub const TABLES: [u16; 4628] = [
     9,
     625,

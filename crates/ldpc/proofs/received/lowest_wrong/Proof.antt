@@ -1,6 +1,6 @@
 -- `ldpc::received::lowest_wrong`: in the first rows the sums are those of the rows, bits and addresses passed; in the
 -- others the running sum was right at every position passed.
-use mathlib.Core.Path.{_≡_, refl, sym, ap, _∙_}
+use mathlib.Core.Path.{_≡_, sym, ap, _∙_}
 use mathlib.Core.List.{List}
 use Prim.Native.Nat.{ℕ, _+_, _*_, _-_, _%_, _<_, _≤_, min}
 use native.Mathlib.Omega.{arith}
@@ -8,11 +8,11 @@ use lib.ListN.{length, getD, replicate}
 use borrow.Author.Count.{below-none, below-more}
 use borrow.Author.Needs.{needs}
 use Rattle.lists.specs.Count.{sum}
-use Rattle.lists.specs.CountLaws.{sum-none, sum-more}
+use Rattle.lists.specs.CountLaws.{sum-none}
 use Rattle.ldpc.specs.Tables.{spacing, positions, rowStart}
 use Rattle.ldpc.specs.TableLaws.{Row, rowStart-none, rowStart-more, row-at}
-use Rattle.ldpc.specs.Parity.{less, bitTimes, rowTimes, timesTo, times, running, parityOf}
-use Rattle.ldpc.specs.ParityLaws.{less-mod, less-below, offset-within, offset-next, bitTimes-none, bitTimes-more, rowTimes-none, rowTimes-more, timesTo-none, timesTo-more, running-sum, getD-parityOf, lowestWrong-is}
+use Rattle.ldpc.specs.Parity.{less, bitTimes, rowTimes, timesTo, times, parityOf}
+use Rattle.ldpc.specs.ParityLaws.{less-mod, less-below, offset-within, offset-next, bitTimes-none, bitTimes-more, rowTimes-none, timesTo-none, running-sum, getD-parityOf, lowestWrong-is}
 use Rattle.ldpc.specs.Needs.{Added}
 use Rattle.ldpc.proofs.Adding.{added-none, added-bit, added-then, rowTimes-next, timesTo-next, added-rows, sums-times, carry-more}
 use Rattle.ldpc.proofs.received.lowest_wrong.Statement.{statement}

@@ -1,12 +1,12 @@
 -- `ldpc::sums::add_row`: the bits passed are added, and the offset is that of the next.
-use mathlib.Core.Path.{_≡_, refl, ap, _∙_}
+use mathlib.Core.Path.{_≡_, refl, _∙_}
 use mathlib.Core.List.{List}
-use Prim.Native.Nat.{ℕ, _+_, _*_, _-_, _<_, _≤_}
+use Prim.Native.Nat.{ℕ, _+_, _*_, _-_, _≤_}
 use native.Mathlib.Omega.{arith}
-use lib.ListN.{length, getD}
+use lib.ListN.{length}
 use borrow.Author.Needs.{needs}
 use Rattle.ldpc.specs.Tables.{spacing, positions}
-use Rattle.ldpc.specs.Parity.{bitTimes, rowTimes}
+use Rattle.ldpc.specs.Parity.{rowTimes}
 use Rattle.ldpc.specs.ParityLaws.{offset-within, offset-next, rowTimes-none, rowTimes-more}
 use Rattle.ldpc.specs.Needs.{Added}
 use Rattle.ldpc.proofs.Adding.{added-none, added-then}

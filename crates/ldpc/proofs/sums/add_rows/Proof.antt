@@ -1,13 +1,13 @@
 -- `ldpc::sums::add_rows`: the rows passed are added, and the next begins at s.
-use mathlib.Core.Path.{_≡_, refl, sym, ap, _∙_}
+use mathlib.Core.Path.{_≡_, sym, ap, _∙_}
 use mathlib.Core.List.{List}
-use Prim.Native.Nat.{ℕ, _+_, _*_, _-_, _<_, _≤_}
+use Prim.Native.Nat.{ℕ, _-_, _≤_}
 use native.Mathlib.Omega.{arith}
 use lib.ListN.{length, getD}
 use borrow.Author.Needs.{needs}
 use Rattle.ldpc.specs.Tables.{positions, rowStart}
 use Rattle.ldpc.specs.TableLaws.{Row, rowStart-none, rowStart-more, row-at}
-use Rattle.ldpc.specs.Parity.{timesTo, rowTimes}
+use Rattle.ldpc.specs.Parity.{timesTo}
 use Rattle.ldpc.specs.ParityLaws.{timesTo-none, timesTo-more}
 use Rattle.ldpc.specs.Needs.{Added}
 use Rattle.ldpc.proofs.Adding.{added-none, added-then, added-rows}

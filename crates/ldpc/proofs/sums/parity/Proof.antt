@@ -1,10 +1,8 @@
 -- `ldpc::sums::parity`: cleared, added to, summed up.
-use mathlib.Core.Path.{_≡_, ap, _∙_}
-use mathlib.Core.List.{List}
+use mathlib.Core.Path.{ap, _∙_}
 use Prim.Native.Nat.{ℕ}
-use lib.ListN.{length, replicate}
+use lib.ListN.{replicate}
 use borrow.Author.Needs.{needs}
-use Rattle.ldpc.specs.Tables.{positions}
 use Rattle.ldpc.proofs.Adding.{coded}
 use Rattle.ldpc.proofs.sums.parity.Statement.{statement}
 use Rattle.ldpc.proofs.sums.parity.Tie as tie

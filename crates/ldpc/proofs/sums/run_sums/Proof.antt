@@ -1,5 +1,5 @@
 -- `ldpc::sums::run_sums`: the area is filled with the running sums; the last one is carried on.
-use mathlib.Core.Path.{_≡_, refl, sym, ap₂, _∙_}
+use mathlib.Core.Path.{_≡_, sym, _∙_}
 use mathlib.Core.List.{List}
 use Prim.Native.Nat.{ℕ, _+_, _-_, _%_, _<_}
 use native.Mathlib.Omega.{arith}
@@ -13,15 +13,15 @@ use Rattle.ldpc.specs.ParityLaws.{running-sum}
 use Rattle.ldpc.proofs.sums.run_sums.Statement.{statement}
 use Rattle.ldpc.proofs.sums.run_sums.Tie as tie
 
-record Inv (found sums : List ℕ) (last i : ℕ) : Type 0 where
-  filling : Filling (table (length found) (running (λ k. getD found k 0))) found i sums
-  carried : last ≡ sum i (λ k. getD found k 0) % 2
+record Inv (found sums : List ℕ) (last position : ℕ) : Type 0 where
+  filling : Filling (table (length found) (running (λ k. getD found k 0))) found position sums
+  carried : last ≡ sum position (λ k. getD found k 0) % 2
 
 abbrev Inv-loop : tie.InvT-loop
-Inv-loop sums₀ last₀ i₀ sums last i = Inv sums₀ sums last i
+Inv-loop sums₀ last₀ position₀ sums last position = Inv sums₀ sums last position
 
 abbrev μ-loop : tie.MeasureT-loop
-μ-loop sums₀ last₀ i₀ sums last i = length sums₀ - i
+μ-loop sums₀ last₀ position₀ sums last position = length sums₀ - position
 
 loop-holds : tie.Need-loop-holds Inv-loop μ-loop
 loop-holds c =
@@ -32,16 +32,16 @@ loop-again : tie.Need-loop-again Inv-loop μ-loop
 loop-again c =
     let l = c .before .before .before .loop in
     let x = c .before .before .before .before .before .args .sums .now in
-    let h : l .i < length x = search needs in
-    let r = c .wide .ensures .0 ∙ filling-here _ _ (l .i) (l .sums) (l .inv .filling) in
-    let e : (l .last + c .wide .result) % 2 ≡ sum (l .i + 1) (λ k. getD x k 0) % 2 = omega (arith, l .inv .carried, sum-more (l .i) (λ k. getD x k 0)) in
+    let h : l .position < length x = search needs in
+    let r = c .wide .ensures .0 ∙ filling-here _ _ (l .position) (l .sums) (l .inv .filling) in
+    let e : (l .last + c .wide .result) % 2 ≡ sum (l .position + 1) (λ k. getD x k 0) % 2 = omega (arith, l .inv .carried, sum-more (l .position) (λ k. getD x k 0)) in
     record {
-      filling = filling-more _ _ (l .i) (l .sums) (l .inv .filling) _ h (e ∙ sym (running-sum (λ k. getD x k 0) (l .i)) ∙ sym (getD-table (length x) _ (l .i) h));
+      filling = filling-more _ _ (l .position) (l .sums) (l .inv .filling) _ h (e ∙ sym (running-sum (λ k. getD x k 0) (l .position)) ∙ sym (getD-table (length x) _ (l .position) h));
       carried = e;
     }
 
 returns : tie.Need-returns Inv-loop μ-loop
-returns c = let l = c .before .loop in filling-all _ _ (l .i) (l .sums) (l .inv .filling) (search needs)
+returns c = let l = c .before .loop in filling-all _ _ (l .position) (l .sums) (l .inv .filling) (search needs)
 
 pub run-sums-spec : {M : Type 1} → statement M
 run-sums-spec =

@@ -1,11 +1,10 @@
 -- `published::copy_from`: each refusal has its number; the part between two starts is the table.
 use mathlib.Core.Path.{_≡_, sym, ap, _∙_}
-use Prim.Native.Nat.{ℕ, _+_, _-_, _<_, _≤_}
+use Prim.Native.Nat.{ℕ, _+_, _-_}
 use native.Mathlib.Omega.{arith}
-use lib.ListN.{length}
 use borrow.Author.Needs.{needs}
 use Rattle.lists.specs.CountLaws.{joinedAt}
-use Rattle.published.specs.Published.{tableAt, tableOf}
+use Rattle.published.specs.Published.{tableAt}
 use Rattle.published.specs.PublishedLaws.{known-yes, known-low, known-high, number-unknown, number-long, number-good, refused, copied}
 use Rattle.published.proofs.Starts.{Placed, placed}
 use Rattle.published.proofs.copies.copy_from.Statement.{statement}
