@@ -11,14 +11,14 @@ pub record Rows (rows : ℕ) : Type 0 where
   pub some : 1 ≤ rows
   pub few : rows ≤ 119
 
--- the bits that a table is for, and the table
+-- an accepted table, 374 bits for each row, and a place for each parity bit
 pub record Ready (rows : ℕ) (t bits sums : List ℕ) : Type 0 where
   pub rate : Rows rows
   pub ok : tableOk rows t ≡ true
   pub long : length bits ≡ 374 * rows
   pub room : length sums ≡ positions rows
 
--- the same, with as many parity bits received
+-- the same, with a received bit for each parity bit
 pub record Received (rows : ℕ) (t bits received sums : List ℕ) : Type 0 where
   pub ready : Ready rows t bits sums
   pub all : length received ≡ positions rows

@@ -16,8 +16,8 @@ position rows a m = (a + m * spacing rows) % positions rows
 abbrev pub less : ℕ → ℕ → ℕ
 less size x = pick (leb size x) (x - size) x
 
--- how often a bit, of value b, reaches position j through the n addresses of t from `from` on, each moved on by o,
--- of which there are size ("A bit reaches a position once for each address of its row that adds it there")
+-- how often a bit of value b reaches position j, of size positions, through the n addresses of t from `from` on, each
+-- moved on by o ("A bit reaches a position once for each address of its row that adds it there")
 unfoldable pub bitTimes : ℕ → List ℕ → ℕ → ℕ → ℕ → ℕ → ℕ → ℕ
 bitTimes size t from n o b j = sum n (λ i. pick (eqb ((getD t (from + i) 0 + o) % size) j) b 0)
 

@@ -38,7 +38,7 @@ pub fn lowest_wrong(
             s = s + 1 + count;
             continue 'rows;
         }
-        'parity: for k in 0..374usize {
+        'parity: for _ in 0..374usize {
             last = (last + lists::wide(sums[position])) % 2;
             if last != lists::wide(received[position]) {
                 break 'rows;

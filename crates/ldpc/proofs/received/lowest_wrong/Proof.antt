@@ -58,10 +58,10 @@ abbrev μ-bits : tie.MeasureT-bits
 μ-bits rows table bits received sums₀ q m s last position r count offset₀ k₀ sums offset k = 374 - k
 
 abbrev Inv-parity : tie.InvT-parity
-Inv-parity rows table bits received sums q m s last₀ position₀ r k₀ last position k = AtPosition rows table bits received position₀ last position k
+Inv-parity rows table bits received sums q m s last₀ position₀ r counter₀ last position counter = AtPosition rows table bits received position₀ last position counter
 
 abbrev μ-parity : tie.MeasureT-parity
-μ-parity rows table bits received sums q m s last₀ position₀ r k₀ last position k = 374 - k
+μ-parity rows table bits received sums q m s last₀ position₀ r counter₀ last position counter = 374 - counter
 
 abbrev Inv-rows : tie.InvT-rows
 Inv-rows rows table bits received sums₀ q m s₀ last₀ position₀ r₀ sums s last position r = AtRow rows table bits received sums₀ sums s last position r

@@ -1,15 +1,16 @@
 -- `ldpc::sums::run_sums`: the area is filled with the running sums; the last one is carried on.
-use mathlib.Core.Path.{_≡_, sym, _∙_}
+use mathlib.Core.Path.{_≡_, sym, ap, _∙_}
 use mathlib.Core.List.{List}
-use Prim.Native.Nat.{ℕ, _+_, _-_, _%_, _<_}
+use Prim.Native.Nat.{ℕ, _-_, _%_, _<_}
 use native.Mathlib.Omega.{arith}
 use lib.ListN.{length, getD}
 use borrow.Author.Needs.{needs}
 use Rattle.lists.specs.Count.{sum, table}
-use Rattle.lists.specs.CountLaws.{sum-none, sum-more, length-table, getD-table}
+use Rattle.lists.specs.CountLaws.{sum-none, length-table, getD-table}
 use Rattle.lists.specs.Filling.{Filling, filling-none, filling-here, filling-more, filling-all}
 use Rattle.ldpc.specs.Parity.{running}
 use Rattle.ldpc.specs.ParityLaws.{running-sum}
+use Rattle.ldpc.proofs.Adding.{carry-more}
 use Rattle.ldpc.proofs.sums.run_sums.Statement.{statement}
 use Rattle.ldpc.proofs.sums.run_sums.Tie as tie
 
@@ -34,7 +35,7 @@ loop-again c =
     let x = c .before .before .before .before .before .args .sums .now in
     let h : l .position < length x = search needs in
     let r = c .wide .ensures .0 ∙ filling-here _ _ (l .position) (l .sums) (l .inv .filling) in
-    let e : (l .last + c .wide .result) % 2 ≡ sum (l .position + 1) (λ k. getD x k 0) % 2 = omega (arith, l .inv .carried, sum-more (l .position) (λ k. getD x k 0)) in
+    let e = carry-more (l .last) (c .wide .result) (λ k. getD x k 0) (l .position) (l .inv .carried) (ap (λ (n : ℕ). n % 2) r) in
     record {
       filling = filling-more _ _ (l .position) (l .sums) (l .inv .filling) _ h (e ∙ sym (running-sum (λ k. getD x k 0) (l .position)) ∙ sym (getD-table (length x) _ (l .position) h));
       carried = e;
