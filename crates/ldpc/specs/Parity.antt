@@ -1,0 +1,48 @@
+-- Parity (document 01, "Checks in the slot" and "What demand 3 compares"). Bits are 0 or 1, in runs of 374 for each row.
+use mathlib.Core.Bool.{not}
+use mathlib.Core.List.{List}
+use Prim.Native.Nat.{ℕ, zero, suc, _+_, _*_, _-_, _%_}
+use lib.Dec.{eqb, leb}
+use lib.ListN.{getD}
+use Rattle.lists.specs.Choice.{pick}
+use Rattle.lists.specs.Count.{sum, first, table}
+use Rattle.ldpc.specs.Tables.{spacing, positions, rowStart}
+
+-- "(address + m × q) mod M"
+abbrev pub position : ℕ → ℕ → ℕ → ℕ
+position rows a m = (a + m * spacing rows) % positions rows
+
+-- a number with the size subtracted when it is reached
+abbrev pub less : ℕ → ℕ → ℕ
+less size x = pick (leb size x) (x - size) x
+
+-- how often a bit of value b reaches position j, of size positions, through the n addresses of t from `from` on, each
+-- moved on by o ("A bit reaches a position once for each address of its row that adds it there")
+unfoldable pub bitTimes : ℕ → List ℕ → ℕ → ℕ → ℕ → ℕ → ℕ → ℕ
+bitTimes size t from n o b j = sum n (λ i. pick (eqb ((getD t (from + i) 0 + o) % size) j) b 0)
+
+-- how often the n bits of u from base on, one row's, reach position j through the c addresses of t from `from` on
+unfoldable pub rowTimes : ℕ → List ℕ → List ℕ → ℕ → ℕ → ℕ → ℕ → ℕ → ℕ
+rowTimes rows t u from c base n j = sum n (λ m. bitTimes (positions rows) t from c (m * spacing rows) (getD u (base + m) 0) j)
+
+-- how often the bits of the first n rows reach position j ("Bit 374 × r + m .. for each address of row r")
+unfoldable pub timesTo : ℕ → List ℕ → List ℕ → ℕ → ℕ → ℕ
+timesTo rows t u n j = sum n (λ r. rowTimes rows t u (rowStart t r + 1) (getD t (rowStart t r) 0) (374 * r) 374 j)
+
+-- how often the set bits of u reach position j
+abbrev pub times : ℕ → List ℕ → List ℕ → ℕ → ℕ
+times rows t u j = timesTo rows t u rows j
+
+-- "Then each parity bit from the second on adds the one before it"
+unfoldable pub running : (ℕ → ℕ) → ℕ → ℕ
+running f zero = f zero % 2
+running f (suc j) = (f (suc j) + running f j) % 2
+
+-- the parity bits of u
+unfoldable pub parityOf : ℕ → List ℕ → List ℕ → List ℕ
+parityOf rows t u = table (positions rows) (running (times rows t u))
+
+-- the lowest position at which the received parity is wrong, or M where there is none ("The parity check stops
+-- where the first wrong position shows")
+unfoldable pub lowestWrong : ℕ → List ℕ → List ℕ → List ℕ → ℕ
+lowestWrong rows t u received = first (positions rows) (λ j. not (eqb (getD (parityOf rows t u) j 0) (getD received j 0)))

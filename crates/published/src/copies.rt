@@ -1,0 +1,62 @@
+// Copying the published table of a rate.
+ghost use mathlib.Core.Path.{_≡_};
+ghost use Prim.Native.Nat.{_≤_};
+ghost use lib.ListN.{length};
+ghost use Rattle.lists.specs.Count.{joined};
+ghost use Rattle.lists.specs.CountLaws.{joinedAt};
+ghost use Rattle.published.specs.Published.{tableAt, Copied};
+use crate::data::STARTS;
+use crate::data::TABLES;
+
+// Document 01's refusal numbers.
+const PLAN: u8 = 1;
+
+const LENGTH: u8 = 4;
+
+// Where the table of rate k + 1 starts, and at 11 the end of the last.
+fn start(k: usize) -> usize
+    requires { ⌜ k ≤ 11 ⌝ }
+    ensures { λ r. ⌜ r ≡ joinedAt tableAt k ⌝ }
+{
+    STARTS[k]
+}
+
+fn copy(from: &[u16], to: &mut [u16])
+    requires { ⌜ length (now to) ≡ length (now from) ⌝ }
+    ensures { λ _. ⌜ now (to .exit) ≡ now (from .entry) ⌝ }
+{
+    let mut i: usize = 0;
+    while i < to.len() {
+        to[i] = from[i];
+        i += 1;
+    }
+}
+
+// Copies the table of a rate from all of them.
+fn copy_from(tables: &[u16], rate: u16, area: &mut [u16]) -> u8
+    requires { ⌜ now tables ≡ joined 11 tableAt ⌝ }
+    ensures { λ r. ⌜ Copied rate (now (area .entry)) (now (area .exit)) r ⌝ }
+{
+    if rate < 1 {
+        return PLAN;
+    }
+    if 11 < rate {
+        return PLAN;
+    }
+    let k = lists::index(rate) - 1;
+    let from = start(k);
+    let to = start(k + 1);
+    if area.len() != to - from {
+        return LENGTH;
+    }
+    copy(&tables[from..to], area);
+    0
+}
+
+// Copies the published table of a rate from 1 to 11 into an area of exactly its length.
+pub fn copy_table(rate: u16, area: &mut [u16]) -> u8
+    ensures { λ r. ⌜ Copied rate (now (area .entry)) (now (area .exit)) r ⌝ }
+{
+    let tables = TABLES;
+    copy_from(&tables, rate, area)
+}
