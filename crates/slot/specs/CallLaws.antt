@@ -1,0 +1,72 @@
+-- Laws of the slot calls' numbers: what a number 0 says.
+use mathlib.Core.Path.{_≡_, refl, sym, ap, _∙_}
+use mathlib.Core.Bool.{true, _&&_}
+use mathlib.Core.List.{List}
+use Prim.Native.Nat.{ℕ}
+use borrow.Author.Tests.{eqb-true}
+use lib.Dec.{eqb}
+use lib.ListN.{length}
+use Rattle.lists.specs.Choice.{pick, andThen}
+use Rattle.lists.specs.ChoiceLaws.{and-left, and-right, then-zero, pick-yes}
+use Rattle.ldpc.specs.Tables.{tableOk}
+use Rattle.plan.specs.declared.FrameState.{FrameState}
+use Rattle.plan.specs.Rates.{rateOk, rowsOf}
+use Rattle.plan.specs.RateLaws.{Rows, rate-rows}
+use Rattle.plan.specs.Plans.{rateOf}
+use Rattle.plan.specs.PlanLaws.{Accepted, accepted, Values, group-values}
+use Rattle.plan.specs.Places.{groupAt, carries}
+use Rattle.plan.specs.PlaceLaws.{Holds, group-holds}
+use Rattle.plan.specs.States.{planIn, stateNumber}
+use Rattle.plan.specs.StateLaws.{Sound, Ready, ready}
+use Rattle.slot.specs.Slots.{slotOctets, sourceOctets}
+use Rattle.slot.specs.Calls.{rowsAt, dataNumber, lentNumber, slotNumber}
+
+-- a state at a data slot
+pub record AtData (s : FrameState) : Type 0 where
+  pub ready : Ready s
+  pub carries : carries (planIn s) (s .slot) ≡ true
+  pub rows : Rows (rowsAt s)
+
+-- the rate at a place is a known one
+pub rows-known : (s : FrameState) → Ready s → Rows (rowsAt s)
+unfolding rowsAt
+rows-known s r =
+    let p = planIn s in
+    let a = accepted p (r .sound .plan) in
+    let h = group-holds p (s .slot) a (r .sound .numbered) (r .left) in
+    rate-rows (rateOf p (groupAt p (s .slot))) (group-values p (groupAt p (s .slot)) a (h .group) .rate)
+
+pub at-data : (s : FrameState) → dataNumber s ≡ 0 → AtData s
+unfolding dataNumber
+at-data s h =
+    let a = then-zero (stateNumber s) _ h in
+    let r = ready s (a .0) in
+    record { ready = r; carries = pick-yes (carries (planIn s) (s .slot)) 0 1 (a .1) .0; rows = rows-known s r }
+
+-- areas of the right lengths, and an accepted table
+pub record Lent (R : ℕ) (t source coded : List ℕ) : Type 0 where
+  pub source-long : length source ≡ sourceOctets R
+  pub coded-long : length coded ≡ slotOctets
+  pub table : tableOk R t ≡ true
+
+pub lent : (R : ℕ) (t source coded : List ℕ) → lentNumber R t source coded ≡ 0 → Lent R t source coded
+unfolding lentNumber
+lent R t source coded h =
+    let a = then-zero (pick (eqb (length source) (sourceOctets R) && eqb (length coded) slotOctets) 0 4) _ h in
+    let b = pick-yes (eqb (length source) (sourceOctets R) && eqb (length coded) slotOctets) 0 3 (a .0) .0 in
+    record {
+      source-long = eqb-true (length source) (sourceOctets R) (and-left (eqb (length source) (sourceOctets R)) _ b);
+      coded-long = eqb-true (length coded) slotOctets (and-right (eqb (length source) (sourceOctets R)) _ b);
+      table = pick-yes (tableOk R t) 0 4 (a .1) .0
+    }
+
+-- all that the work on a slot may assume
+pub record Accepted-slot (s : FrameState) (t source coded : List ℕ) : Type 0 where
+  pub place : AtData s
+  pub areas : Lent (rowsAt s) t source coded
+
+pub accepted-slot : (s : FrameState) (t source coded : List ℕ) → slotNumber s t source coded ≡ 0 → Accepted-slot s t source coded
+unfolding slotNumber
+accepted-slot s t source coded h =
+    let a = then-zero (dataNumber s) _ h in
+    record { place = at-data s (a .0); areas = lent (rowsAt s) t source coded (a .1) }

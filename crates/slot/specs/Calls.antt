@@ -1,0 +1,67 @@
+-- The calls on a slot (document 01, "Refusal list"): their numbers, states and areas.
+use mathlib.Core.Bool.{_&&_}
+use mathlib.Core.List.{List}
+use Prim.Native.Nat.{ℕ}
+use lib.Dec.{eqb}
+use lib.ListN.{length}
+use Rattle.lists.specs.Choice.{pick, andThen}
+use Rattle.refusal.specs.Numbers.{PLAN, DUMMY, LENGTH, TABLE, PARITY}
+use Rattle.ldpc.specs.Tables.{tableOk}
+use Rattle.plan.specs.declared.FrameState.{FrameState}
+use Rattle.plan.specs.declared.Answer.{Answer}
+use Rattle.plan.specs.Rates.{rateOk, rowsOf}
+use Rattle.plan.specs.Plans.{rateOf}
+use Rattle.plan.specs.Places.{groupAt, carries}
+use Rattle.plan.specs.States.{planIn, movedOn, answer, stateNumber}
+use Rattle.slot.specs.Slots.{slotOctets, sourceOctets, slotOf, registerAfter}
+use Rattle.slot.specs.Reading.{receivedNumber, parityRight, sourceOf}
+
+-- the rows of the parity table at the place of the state's next slot
+unfoldable pub rowsAt : FrameState → ℕ
+rowsAt s = rowsOf (rateOf (planIn s) (groupAt (planIn s) (s .slot)))
+
+-- "Slot calls: 1, 6, 3, 2": "data call at a dummy"
+unfoldable pub dataNumber : FrameState → ℕ
+dataNumber s = andThen (stateNumber s) (pick (carries (planIn s) (s .slot)) 0 DUMMY)
+
+-- ", 4, 5": header and data octets, the slot's 5,610 octets, and the parity table
+unfoldable pub lentNumber : ℕ → List ℕ → List ℕ → List ℕ → ℕ
+lentNumber R t source coded =
+    andThen (pick (eqb (length source) (sourceOctets R) && eqb (length coded) slotOctets) 0 LENGTH) (pick (tableOk R t) 0 TABLE)
+
+unfoldable pub slotNumber : FrameState → List ℕ → List ℕ → List ℕ → ℕ
+slotNumber s t source coded = andThen (dataNumber s) (lentNumber (rowsAt s) t source coded)
+
+-- "Coding or reading a data slot .. moves on by one", with the register stepped over what is dispersed
+abbrev pub nextState : FrameState → FrameState
+nextState s = movedOn s (registerAfter (rowsAt s) (s .mask) (s .register))
+
+-- coding a slot: number and state, and the coded octets
+unfoldable pub codeAnswer : FrameState → List ℕ → List ℕ → List ℕ → Answer
+codeAnswer s t source coded = answer (slotNumber s t source coded) (nextState s) s
+
+unfoldable pub codeArea : FrameState → List ℕ → List ℕ → List ℕ → List ℕ
+codeArea s t source coded =
+    pick (eqb (slotNumber s t source coded) 0) (slotOf (rowsAt s) t (s .mask) (s .register) source) coded
+
+-- ", and in reading 8, 9, 10"
+unfoldable pub readNumber : FrameState → List ℕ → List ℕ → List ℕ → ℕ
+readNumber s t coded source =
+    andThen (slotNumber s t source coded) (receivedNumber (rowsAt s) t (s .mask) (s .register) coded)
+
+-- reading a slot: "8, 9 and 10 move the slot reader on one place with the register stepped as for a good slot"
+unfoldable pub readAnswer : FrameState → List ℕ → List ℕ → List ℕ → Answer
+readAnswer s t coded source =
+    record { number = readNumber s t coded source; state = pick (eqb (slotNumber s t source coded) 0) (nextState s) s }
+
+unfoldable pub readArea : FrameState → List ℕ → List ℕ → List ℕ → List ℕ
+readArea s t coded source =
+    pick (eqb (readNumber s t coded source) 0) (sourceOf (rowsAt s) (s .mask) (s .register) coded) source
+
+-- "Lone parity check: 1, 4, 5, 8"
+unfoldable pub checkNumber : ℕ → List ℕ → List ℕ → ℕ
+checkNumber rate t coded =
+    andThen (pick (rateOk rate) 0 PLAN)
+    (andThen (pick (eqb (length coded) slotOctets) 0 LENGTH)
+    (andThen (pick (tableOk (rowsOf rate) t) 0 TABLE)
+    (pick (parityRight (rowsOf rate) t coded) 0 PARITY)))

@@ -1,0 +1,6 @@
+pub mod Slots
+pub mod SlotLaws
+pub mod Reading
+pub mod ReadingLaws
+pub mod Calls
+pub mod CallLaws
