@@ -90,3 +90,8 @@ three-parts xs a b c p q r l h k la lb lc =
     ∙ put-put 0 (a ++ b) c xs (omega arith)
     ∙ put-whole ((a ++ b) ++ c) xs (omega arith)
     ∙ append-assoc a b c)
+
+-- a list put at the end of the area
+pub put-end : (a : ℕ) (ys xs : List ℕ) → a + length ys ≡ length xs → put a ys xs ≡ take a xs ++ ys
+unfolding put
+put-end a ys xs l = let k : length xs ≤ a + length ys = omega arith in rw (drop-of-length-le xs k) (ap (λ (v : List ℕ). take a xs ++ v) (append-nil ys))
