@@ -1,6 +1,8 @@
 pub mod Slots
 pub mod SlotLaws
+pub mod ThreeRuns
 pub mod Reading
 pub mod ReadingLaws
+pub mod RoundTrips
 pub mod Calls
 pub mod CallLaws
