@@ -3,6 +3,6 @@ pub mod SlotLaws
 pub mod ThreeRuns
 pub mod Reading
 pub mod ReadingLaws
-pub mod RoundTrips
 pub mod Calls
 pub mod CallLaws
+pub mod RoundTrips

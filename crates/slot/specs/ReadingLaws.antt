@@ -114,8 +114,7 @@ unfolding stuffRight
 stuff-right R u w l z =
     let six = stuffIn-long R u w l in
     let all : take 6 (stuffIn R u) ≡ stuffIn R u = take-all 6 (stuffIn R u) (omega arith) in
-    let back = digits-number 6 (stuffIn R u) (omega arith) (stuffIn-bits R u z) in
-    (
+    let back = digits-number 6 (stuffIn R u) (omega arith) (stuffIn-bits R u z) in (
       (λ e. sym all ∙ sym back ∙ ap (digits 6) (eqb-true (number 6 (stuffIn R u)) 63 e) ∙ ones-digits),
       (λ e. eq-eqb (number 6 (stuffIn R u)) 63 (ap (number 6) e ∙ ones-number)),
     )
@@ -134,8 +133,7 @@ module _ (R : ℕ) (t : List ℕ) (mask r : ℕ) (c : List ℕ) (w : Rows R) (l 
       let u = takenOff R mask r c in
       let p = parity-right R t c w l in
       let b = bch-right R u in
-      let s = stuff-right R u w (takenOff-long R c w l mask r) (takenOff-bits R mask r c) in
-      (
+      let s = stuff-right R u w (takenOff-long R c w l mask r) (takenOff-bits R mask r c) in (
         (λ h.
             let a = then-zero (pick (parityRight R t c) 0 PARITY) _ h in
             let d = then-zero (pick (bchRight R u) 0 BCH) _ (a .1) in
