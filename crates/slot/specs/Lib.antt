@@ -6,3 +6,4 @@ pub mod ReadingLaws
 pub mod Calls
 pub mod CallLaws
 pub mod RoundTrips
+pub mod DemandThree

@@ -2,26 +2,24 @@
 -- answers, 0 exactly when all three checks hold.
 use mathlib.Core.Path.{_≡_, refl, sym, ap, _∙_}
 use mathlib.Core.Bool.{Bool, true, false}
-use mathlib.Core.List.{List, _++_}
+use mathlib.Core.List.{List}
 use mathlib.Core.Logic.{_↔_, _⊎_, inl, inr}
-use Prim.Native.Nat.{ℕ, _+_, _-_, _*_, _≤_}
+use Prim.Native.Nat.{ℕ, _+_, _*_}
 use native.Mathlib.Omega.{arith}
 use borrow.Author.Tests.{eqb-true, eq-eqb}
-use lib.ListN.{length, take, drop, length-drop}
+use lib.ListN.{length, take, length-drop}
 use lib.Seq.{length-take-le, take-all}
 use Rattle.lists.specs.Choice.{pick, andThen}
 use Rattle.lists.specs.ChoiceLaws.{then-zero, pick-yes}
-use Rattle.lists.specs.Parts.{part}
 use Rattle.lists.specs.PartLaws.{length-part}
 use Rattle.lists.specs.Runs.{Bits, Octets}
 use Rattle.lists.specs.RunLaws.{below-take, below-drop, below-part}
 use Rattle.refusal.specs.Numbers.{PARITY, BCH, STUFF}
 use Rattle.bits.specs.Digits.{digits, number}
 use Rattle.bits.specs.DigitLaws.{digits-number}
-use Rattle.bits.specs.Octets.{bitsOf, octetsOf}
+use Rattle.bits.specs.Octets.{bitsOf}
 use Rattle.bits.specs.OctetLaws.{length-bitsOf, bitsOf-bits, length-octetsOf, octetsOf-octets, bits-octets}
-use Rattle.bits.specs.Same.{same, same-is, same-true}
-use Rattle.dispersal.specs.Dispersal.{dispersed}
+use Rattle.bits.specs.Same.{same-is, same-true}
 use Rattle.dispersal.specs.DispersalLaws.{length-dispersed, dispersed-bits}
 use Rattle.bch.specs.Bch.{bchBits}
 use Rattle.ldpc.specs.Tables.{positions}

@@ -1,22 +1,22 @@
 -- Coding and then reading a slot, and reading and then coding one: over the definitions of a slot, and over the calls
 -- with their numbers, states and areas. The state after a slot is the same whether it was coded or read, read well or
 -- not, and it is sound for the next call.
-use mathlib.Core.Path.{_≡_, refl, sym, ap, ap₂, _∙_}
+use mathlib.Core.Path.{_≡_, sym, ap, _∙_}
 use mathlib.Core.Bool.{Bool, true, false, _&&_}
-use mathlib.Core.List.{List, _++_}
+use mathlib.Core.List.{List}
 use mathlib.Core.Logic.{_↔_, inl, inr}
-use Prim.Native.Nat.{ℕ, _+_, _-_, _<_}
+use Prim.Native.Nat.{ℕ, _-_, _<_}
 use native.Mathlib.Decide.{ℕ-discrete}
 use native.Mathlib.Omega.{arith}
 use borrow.Author.Tests.{eq-eqb}
 use lib.Dec.{eqb, leb}
 use lib.ListN.{length, take-append-drop}
-use Rattle.lists.specs.Runs.{Bits, Octets}
+use Rattle.lists.specs.Runs.{Octets}
 use Rattle.lists.specs.Choice.{pick, andThen}
 use Rattle.lists.specs.ChoiceLaws.{then-zero, then-next, then-first, then-both}
 use Rattle.lists.specs.Count.{every}
 use Rattle.refusal.specs.Numbers.{PLAN, DUMMY, FULL, LENGTH, TABLE, REGISTER, PARITY}
-use Rattle.bits.specs.Octets.{bitsOf, octetsOf}
+use Rattle.bits.specs.Octets.{bitsOf}
 use Rattle.bits.specs.OctetLaws.{bitsOf-bits, octets-bits}
 use Rattle.dispersal.specs.Register.{registerOk}
 use Rattle.dispersal.specs.RegisterLaws.{after-ok}
@@ -33,7 +33,7 @@ use Rattle.plan.specs.declared.Answer.{Answer}
 use Rattle.plan.specs.Plans.{groupsOk, valuesOk, fallsAfter, slotsBefore, planNumber}
 use Rattle.plan.specs.Places.{carries}
 use Rattle.plan.specs.States.{slotWidth, planIn, settingsOk, soundNumber, stateNumber}
-use Rattle.plan.specs.StateLaws.{Sound, sound-yes, moved-sound}
+use Rattle.plan.specs.StateLaws.{sound-yes, moved-sound}
 use Rattle.slot.specs.Slots.{slotOctets, messageBits, sourceOctets, coveredBits, stuffBits, plain, sent, withParity, slotOf, registerAfter}
 use Rattle.slot.specs.SlotLaws.{Source, plain-bits, length-message, slot-covered, slot-parity, length-slotOf, slotOf-octets}
 use Rattle.slot.specs.ThreeRuns.{first-of-three, second-of-three, third-of-three, three-whole}
