@@ -199,13 +199,10 @@ next-sound s t source coded h =
 
 pub coded-next : (s : FrameState) (t source coded : List ℕ) → codeAnswer s t source coded .number ≡ 0 → soundNumber (codeAnswer s t source coded .state) ≡ 0
 unfolding codeAnswer
-coded-next s t source coded h = rw (eq-eqb (slotNumber s t source coded) 0 h) (next-sound s t source coded h)
+coded-next s t source coded h = rw (coded-state s t source coded h) (next-sound s t source coded h)
 
 pub read-next : (s : FrameState) (t coded source : List ℕ) → MovesOn (readAnswer s t coded source .number) → soundNumber (readAnswer s t coded source .state) ≡ 0
-unfolding readAnswer
-read-next s t coded source m =
-    let h = read-moves s t coded source .0 m in
-    rw (eq-eqb (slotNumber s t source coded) 0 h) (next-sound s t source coded h)
+read-next s t coded source m = rw (read-state s t coded source m) (next-sound s t source coded (read-moves s t coded source .0 m))
 
 -- that a call answers 0 with this state, and leaves these octets in its area
 pub record Answers (a : Answer) (area : List ℕ) (next : FrameState) (octets : List ℕ) : Type 0 where
@@ -228,7 +225,7 @@ code-then-read s t source coded out o l h =
     let k : readNumber s t c out ≡ 0 = then-both (slotNumber s t out c) _ n (again .number) in
     rw area (record {
       number = k;
-      state = rw (eq-eqb (slotNumber s t out c) 0 n, eq-eqb (slotNumber s t source coded) 0 h);
+      state = sym (next-same s t source coded t c out h (inl k));
       octets-are = rw (eq-eqb (readNumber s t c out) 0 k) (again .source);
     })
 
@@ -246,6 +243,6 @@ read-then-code s t coded source out o l h =
     let n : slotNumber s t m out ≡ 0 = slotNumber-lengths s t m out source coded (sourceOf-source R (s .mask) (s .register) coded .long ∙ sym (a .areas .source-long)) l ∙ z .0 in
     rw area (record {
       number = n;
-      state = rw (eq-eqb (slotNumber s t m out) 0 n, eq-eqb (slotNumber s t source coded) 0 (z .0));
+      state = next-same s t m out t coded source n (inl h);
       octets-are = rw (eq-eqb (slotNumber s t m out) 0 n) (read-coded R t (s .mask) (s .register) coded (a .place .rows) (record { octets = o; long = a .areas .coded-long }) (z .1));
     })
