@@ -1,6 +1,6 @@
 -- Coding and then reading a slot, and reading and then coding one: over the definitions of a slot, and over the calls
--- with their numbers, states and areas. The state after a slot is the same whether it was coded or read, read well or
--- not, and it is sound for the next call.
+-- with their numbers, states and areas. Reading answers 0 exactly when all three checks hold. The state after a slot is
+-- the same whether it was coded or read, read well or not, and it is sound for the next call.
 use mathlib.Core.Path.{_≡_, sym, ap, _∙_}
 use mathlib.Core.Bool.{Bool, true, false, _&&_}
 use mathlib.Core.List.{List}
@@ -108,6 +108,15 @@ pub slotNumber-lengths : (s : FrameState) (t source coded source′ coded′ : L
     → slotNumber s t source coded ≡ slotNumber s t source′ coded′
 unfolding slotNumber lentNumber
 slotNumber-lengths s t source coded source′ coded′ l m = rw (l, m)
+
+-- a reading that is refused for nothing before the slot itself is read answers 0 exactly when all three checks hold
+pub read-good : (s : FrameState) (t coded source : List ℕ) → slotNumber s t source coded ≡ 0
+    → (readAnswer s t coded source .number ≡ 0) ↔ Good (rowsAt s) t (s .mask) (s .register) coded
+unfolding readAnswer readNumber
+read-good s t coded source h =
+    let a = accepted-slot s t source coded h in
+    rw (then-next (slotNumber s t source coded) (receivedNumber (rowsAt s) t (s .mask) (s .register) coded) h)
+    (received-good (rowsAt s) t (s .mask) (s .register) coded (a .place .rows) (a .areas .coded-long))
 
 -- the numbers tested before the slot itself is read are none of 8, 9 and 10
 abbrev Earlier : ℕ → Type 0
