@@ -12,6 +12,7 @@ pub use rates::parity_bits;
 pub use rates::parity_step;
 pub use rates::rows;
 pub use state::advanced;
+pub use state::next_place;
 pub use state::open;
 pub use state::pass;
 pub use state::plan_in;

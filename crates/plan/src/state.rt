@@ -1,9 +1,11 @@
 // The frame state: opening a frame, what every slot call tests, and passing a dummy.
 ghost use mathlib.Core.Path.{_≡_};
 ghost use Prim.Native.Nat.{_≤_};
+ghost use Rattle.plan.specs.Places.{placeOf};
 ghost use Rattle.plan.specs.States.{planIn, settingsOk, begun, zeros, movedOn, openNumber, opened, soundNumber, stateNumber, passNumber, passed};
 use crate::Answer;
 use crate::FrameState;
+use crate::Place;
 use crate::Plan;
 use crate::groups::plan_number;
 use crate::places::place_of;
@@ -140,6 +142,14 @@ pub fn advanced(state: FrameState, register: u32) -> FrameState
     next
 }
 
+// The place of a state's next slot.
+pub fn next_place(state: FrameState) -> Place
+    requires { ⌜ stateNumber state ≡ 0 ⌝ }
+    ensures { λ r. ⌜ r ≡ placeOf (planIn state) (state .slot) ⌝ }
+{
+    place_of(plan_in(state), lists::index(state.slot))
+}
+
 fn pass_number(state: FrameState) -> u8
     ensures { λ r. ⌜ r ≡ passNumber state ⌝ }
 {
@@ -147,7 +157,7 @@ fn pass_number(state: FrameState) -> u8
     if number != 0 {
         return number;
     }
-    let place = place_of(plan_in(state), lists::index(state.slot));
+    let place = next_place(state);
     if place.carries {
         return refusal::DUMMY;
     }

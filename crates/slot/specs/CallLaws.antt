@@ -1,23 +1,22 @@
 -- Laws of the slot calls' numbers: what a number 0 says.
-use mathlib.Core.Path.{_≡_, refl, sym, ap, _∙_}
+use mathlib.Core.Path.{_≡_}
 use mathlib.Core.Bool.{true, _&&_}
 use mathlib.Core.List.{List}
 use Prim.Native.Nat.{ℕ}
 use borrow.Author.Tests.{eqb-true}
 use lib.Dec.{eqb}
 use lib.ListN.{length}
-use Rattle.lists.specs.Choice.{pick, andThen}
+use Rattle.lists.specs.Choice.{pick}
 use Rattle.lists.specs.ChoiceLaws.{and-left, and-right, then-zero, pick-yes}
 use Rattle.ldpc.specs.Tables.{tableOk}
 use Rattle.plan.specs.declared.FrameState.{FrameState}
-use Rattle.plan.specs.Rates.{rateOk, rowsOf}
 use Rattle.plan.specs.RateLaws.{Rows, rate-rows}
 use Rattle.plan.specs.Plans.{rateOf}
-use Rattle.plan.specs.PlanLaws.{Accepted, accepted, Values, group-values}
+use Rattle.plan.specs.PlanLaws.{accepted, group-values}
 use Rattle.plan.specs.Places.{groupAt, carries}
-use Rattle.plan.specs.PlaceLaws.{Holds, group-holds}
+use Rattle.plan.specs.PlaceLaws.{group-holds}
 use Rattle.plan.specs.States.{planIn, stateNumber}
-use Rattle.plan.specs.StateLaws.{Sound, Ready, ready}
+use Rattle.plan.specs.StateLaws.{Ready, ready}
 use Rattle.slot.specs.Slots.{slotOctets, sourceOctets}
 use Rattle.slot.specs.Calls.{rowsAt, dataNumber, lentNumber, slotNumber}
 
@@ -57,7 +56,7 @@ lent R t source coded h =
     record {
       source-long = eqb-true (length source) (sourceOctets R) (and-left (eqb (length source) (sourceOctets R)) _ b);
       coded-long = eqb-true (length coded) slotOctets (and-right (eqb (length source) (sourceOctets R)) _ b);
-      table = pick-yes (tableOk R t) 0 4 (a .1) .0
+      table = pick-yes (tableOk R t) 0 4 (a .1) .0;
     }
 
 -- all that the work on a slot may assume

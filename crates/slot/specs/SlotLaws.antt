@@ -1,15 +1,14 @@
 -- Laws of a coded slot: lengths, bits, and its parts.
-use mathlib.Core.Path.{_≡_, refl, sym, ap, ap₂, _∙_}
+use mathlib.Core.Path.{_≡_, sym, ap, _∙_}
 use mathlib.Core.List.{List, _++_}
-use Prim.Native.Nat.{ℕ, _+_, _-_, _*_, _/_, _%_, _≤_}
+use Prim.Native.Nat.{ℕ, _+_, _-_, _*_, _/_}
 use native.Mathlib.Omega.{arith}
-use lib.ListN.{length, take, drop, replicate, length-append, length-replicate}
+use lib.ListN.{length, take, drop, length-append}
 use lib.Seq.{take-at, drop-at}
 use Rattle.lists.specs.Runs.{Bits, Octets}
 use Rattle.lists.specs.RunLaws.{below-append, below-replicate}
-use Rattle.bits.specs.Octets.{bitsOf, octetsOf}
-use Rattle.bits.specs.OctetLaws.{length-bitsOf, bitsOf-bits, length-octetsOf, octetsOf-octets, bits-octets}
-use Rattle.dispersal.specs.Dispersal.{dispersed}
+use Rattle.bits.specs.Octets.{bitsOf}
+use Rattle.bits.specs.OctetLaws.{length-bitsOf, length-octetsOf, octetsOf-octets, bits-octets}
 use Rattle.dispersal.specs.DispersalLaws.{length-dispersed, dispersed-bits}
 use Rattle.bch.specs.Bch.{bchBits}
 use Rattle.bch.specs.BchLaws.{length-bchBits, bchBits-bits}

@@ -1,1 +1,8 @@
-// What coding and reading a slot share: the number of a slot call, and the rows at its place.
+// What coding and reading a slot share: the number of a slot call, and the sizes at its place.
+mod calls;
+mod sizes;
+
+pub use calls::rows_at;
+pub use calls::slot_number;
+pub use sizes::covered_bits;
+pub use sizes::message_bits;

@@ -1,0 +1,61 @@
+// The number of a slot call: the state, the place, the lent areas and the table, in document 01's order.
+ghost use mathlib.Core.Path.{_≡_};
+ghost use Rattle.plan.specs.RateLaws.{Rows};
+ghost use Rattle.plan.specs.States.{stateNumber};
+ghost use Rattle.slot.specs.Calls.{rowsAt, dataNumber, lentNumber, slotNumber};
+use crate::sizes::source_octets;
+use plan::FrameState;
+
+const SLOT_OCTETS: usize = 5610;
+
+// The rows of the parity table at the place of a state's next slot.
+pub fn rows_at(state: FrameState) -> usize
+    requires { ⌜ stateNumber state ≡ 0 ⌝ }
+    ensures { λ r. ⌜ r ≡ rowsAt state ⌝ }
+{
+    let place = plan::next_place(state);
+    plan::rows(place.rate)
+}
+
+// The refusal of a state, or of a dummy at its next slot, or 0.
+fn data_number(state: FrameState) -> u8
+    ensures { λ r. ⌜ r ≡ dataNumber state ⌝ }
+{
+    let number = plan::state_number(state);
+    if number != 0 {
+        return number;
+    }
+    let place = plan::next_place(state);
+    if place.carries {
+        return 0;
+    }
+    refusal::DUMMY
+}
+
+// The refusal of the lent areas or of the parity table, or 0.
+fn lent_number(rows: usize, table: &[u16], source: &[u8], coded: &[u8]) -> u8
+    requires { ⌜ Rows rows ⌝ }
+    ensures { λ r. ⌜ r ≡ lentNumber rows (now (table .entry)) (now (source .entry)) (now (coded .entry)) ⌝ }
+{
+    if source.len() != source_octets(rows) {
+        return refusal::LENGTH;
+    }
+    if coded.len() != SLOT_OCTETS {
+        return refusal::LENGTH;
+    }
+    if ldpc::table_ok(rows, table) {
+        return 0;
+    }
+    refusal::TABLE
+}
+
+// The refusal of a slot call before any work on the slot, or 0.
+pub fn slot_number(state: FrameState, table: &[u16], source: &[u8], coded: &[u8]) -> u8
+    ensures { λ r. ⌜ r ≡ slotNumber state (now (table .entry)) (now (source .entry)) (now (coded .entry)) ⌝ }
+{
+    let number = data_number(state);
+    if number != 0 {
+        return number;
+    }
+    lent_number(rows_at(state), table, source, coded)
+}
