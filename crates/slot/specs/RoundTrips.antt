@@ -1,0 +1,257 @@
+-- Coding and then reading a slot, and reading and then coding one: over the definitions of a slot, and over the calls
+-- with their numbers, states and areas. Reading answers 0 exactly when all three checks hold. The state after a slot is
+-- the same whether it was coded or read, read well or not, and it is sound for the next call.
+use mathlib.Core.Path.{_≡_, sym, ap, _∙_}
+use mathlib.Core.Bool.{Bool, true, false, _&&_}
+use mathlib.Core.List.{List}
+use mathlib.Core.Logic.{_↔_, inl, inr}
+use Prim.Native.Nat.{ℕ, _-_, _<_}
+use native.Mathlib.Decide.{ℕ-discrete}
+use native.Mathlib.Omega.{arith}
+use borrow.Author.Tests.{eq-eqb}
+use lib.Dec.{eqb, leb}
+use lib.ListN.{length, take-append-drop}
+use Rattle.lists.specs.Runs.{Octets}
+use Rattle.lists.specs.Choice.{pick, andThen}
+use Rattle.lists.specs.ChoiceLaws.{then-zero, then-next, then-first, then-both}
+use Rattle.lists.specs.Count.{every}
+use Rattle.refusal.specs.Numbers.{PLAN, DUMMY, FULL, LENGTH, TABLE, REGISTER, PARITY}
+use Rattle.bits.specs.Octets.{bitsOf}
+use Rattle.bits.specs.OctetLaws.{bitsOf-bits, octets-bits}
+use Rattle.dispersal.specs.Register.{registerOk}
+use Rattle.dispersal.specs.RegisterLaws.{after-ok}
+use Rattle.dispersal.specs.Dispersal.{dispersed}
+use Rattle.dispersal.specs.DispersalLaws.{dispersed-twice}
+use Rattle.bch.specs.Bch.{bchBits}
+use Rattle.bch.specs.BchLaws.{length-bchBits}
+use Rattle.ldpc.specs.Tables.{tableOk}
+use Rattle.ldpc.specs.Parity.{parityOf}
+use Rattle.plan.specs.RateLaws.{Rows}
+use Rattle.plan.specs.declared.Plan.{Plan}
+use Rattle.plan.specs.declared.FrameState.{FrameState}
+use Rattle.plan.specs.declared.Answer.{Answer}
+use Rattle.plan.specs.Plans.{groupsOk, valuesOk, fallsAfter, slotsBefore, planNumber}
+use Rattle.plan.specs.Places.{carries}
+use Rattle.plan.specs.States.{slotWidth, planIn, settingsOk, soundNumber, stateNumber}
+use Rattle.plan.specs.StateLaws.{sound-yes, moved-sound}
+use Rattle.slot.specs.Slots.{slotOctets, messageBits, sourceOctets, coveredBits, stuffBits, plain, sent, withParity, slotOf, registerAfter}
+use Rattle.slot.specs.SlotLaws.{Source, plain-bits, length-message, slot-covered, slot-parity, length-slotOf, slotOf-octets}
+use Rattle.slot.specs.ThreeRuns.{first-of-three, second-of-three, third-of-three, three-whole}
+use Rattle.slot.specs.Reading.{covered, parity, takenOff, messageIn, bchIn, stuffIn, receivedNumber, sourceOf}
+use Rattle.slot.specs.ReadingLaws.{Received, Good, MovesOn, received-numbers, received-good, covered-bits, sourceOf-source, sourceOf-bits}
+use Rattle.slot.specs.Calls.{rowsAt, dataNumber, lentNumber, slotNumber, nextState, codeAnswer, codeArea, readNumber, readAnswer, readArea}
+use Rattle.slot.specs.CallLaws.{accepted-slot}
+
+-- a coded slot, as it is received
+pub slot-received : (R : ℕ) (t : List ℕ) (mask r : ℕ) (source : List ℕ) → Received (slotOf R t mask r source)
+slot-received R t mask r source = record { octets = slotOf-octets R t mask r source; long = length-slotOf R t mask r source }
+
+-- what reading finds in the plain bits of a message m
+module _ (R : ℕ) (m : List ℕ) (l : length m ≡ messageBits R) where
+  pub plain-message : messageIn R (plain m) ≡ m
+  unfolding plain
+  plain-message = first-of-three m (bchBits m) stuffBits (messageBits R) 192 l (length-bchBits m)
+
+  pub plain-bch : bchIn R (plain m) ≡ bchBits m
+  unfolding plain
+  plain-bch = second-of-three m (bchBits m) stuffBits (messageBits R) 192 l (length-bchBits m)
+
+  pub plain-stuff : stuffIn R (plain m) ≡ stuffBits
+  unfolding plain
+  plain-stuff = third-of-three m (bchBits m) stuffBits (messageBits R) 192 l (length-bchBits m)
+
+-- that reading the slot c answers 0 and gives these header and data octets
+pub record ReadsAs (R : ℕ) (t : List ℕ) (mask r : ℕ) (c octets : List ℕ) : Type 0 where
+  pub number : receivedNumber R t mask r c ≡ 0
+  pub source : sourceOf R mask r c ≡ octets
+
+module _ (R : ℕ) (t : List ℕ) (mask r : ℕ) (source : List ℕ) (w : Rows R) (o : Source R source) where
+  -- taking dispersal off a coded slot gives the plain bits back
+  pub slot-takenOff : takenOff R mask r (slotOf R t mask r source) ≡ plain (bitsOf source)
+  unfolding takenOff sent
+  slot-takenOff =
+      ap (dispersed slotWidth mask r) (slot-covered R t mask r source w (o .long))
+      ∙ dispersed-twice slotWidth mask r (plain (bitsOf source)) (plain-bits (bitsOf source) (bitsOf-bits source))
+
+  slot-good : Good R t mask r (slotOf R t mask r source)
+  slot-good =
+      let m = bitsOf source in
+      let l = length-message R source w (o .long) in
+      record {
+        parity = slot-parity R t mask r source w (o .long) ∙ ap (parityOf R t) (sym (slot-covered R t mask r source w (o .long)));
+        bch = rw slot-takenOff (plain-bch R m l ∙ ap bchBits (sym (plain-message R m l)));
+        stuff = rw slot-takenOff (plain-stuff R m l);
+      }
+
+  -- coding and then reading returns header and data
+  pub coded-read : ReadsAs R t mask r (slotOf R t mask r source) source
+  unfolding sourceOf
+  coded-read =
+      record {
+        number = received-good R t mask r (slotOf R t mask r source) w (length-slotOf R t mask r source) .1 slot-good;
+        source = rw (slot-takenOff, plain-message R (bitsOf source) (length-message R source w (o .long))) (octets-bits (sourceOctets R) source (o .long) (o .octets));
+      }
+
+-- reading an accepted slot and coding it again at the same register returns its octets
+pub read-coded : (R : ℕ) (t : List ℕ) (mask r : ℕ) (c : List ℕ) → Rows R → Received c → receivedNumber R t mask r c ≡ 0
+    → slotOf R t mask r (sourceOf R mask r c) ≡ c
+unfolding slotOf withParity sent plain takenOff
+read-coded R t mask r c w o h =
+    let u = takenOff R mask r c in
+    let g = received-good R t mask r c w (o .long) .0 h in
+    let p : plain (messageIn R u) ≡ u = rw (← g .bch, ← g .stuff) (three-whole (messageBits R) 192 u) in
+    let d : sent mask r (messageIn R u) ≡ covered R c = ap (dispersed slotWidth mask r) p ∙ dispersed-twice slotWidth mask r (covered R c) (covered-bits R c) in
+    rw (sourceOf-bits R mask r c w (o .long), d, ← g .parity, take-append-drop (coveredBits R) (bitsOf c)) (octets-bits slotOctets c (o .long) (o .octets))
+
+-- of the lent areas only the lengths count for the number of a call
+pub slotNumber-lengths : (s : FrameState) (t source coded source′ coded′ : List ℕ) → length source ≡ length source′ → length coded ≡ length coded′
+    → slotNumber s t source coded ≡ slotNumber s t source′ coded′
+unfolding slotNumber lentNumber
+slotNumber-lengths s t source coded source′ coded′ l m = rw (l, m)
+
+-- a reading that is refused for nothing before the slot itself is read answers 0 exactly when all three checks hold
+pub read-good : (s : FrameState) (t coded source : List ℕ) → slotNumber s t source coded ≡ 0
+    → (readAnswer s t coded source .number ≡ 0) ↔ Good (rowsAt s) t (s .mask) (s .register) coded
+unfolding readAnswer readNumber
+read-good s t coded source h =
+    let a = accepted-slot s t source coded h in
+    rw (then-next (slotNumber s t source coded) (receivedNumber (rowsAt s) t (s .mask) (s .register) coded) h)
+    (received-good (rowsAt s) t (s .mask) (s .register) coded (a .place .rows) (a .areas .coded-long))
+
+-- the numbers tested before the slot itself is read are none of 8, 9 and 10
+abbrev Earlier : ℕ → Type 0
+Earlier n = MovesOn n → n ≡ 0
+
+earlier : (n : ℕ) → n < PARITY → Earlier n
+earlier n h (inl e) = e
+earlier n h (inr (inl e)) = absurd (omega arith)
+earlier n h (inr (inr (inl e))) = absurd (omega arith)
+earlier n h (inr (inr (inr e))) = absurd (omega arith)
+
+earlier-pick : (b : Bool) {m n : ℕ} → Earlier m → Earlier n → Earlier (pick b m n)
+earlier-pick true h k = h
+earlier-pick false h k = k
+
+earlier-then : {a b : ℕ} → Earlier a → Earlier b → Earlier (andThen a b)
+earlier-then {a} h k = earlier-pick (eqb a 0) k h
+
+earlier-test : (b : Bool) (n : ℕ) → n < PARITY → Earlier (pick b 0 n)
+earlier-test b n h = earlier-pick b (earlier 0 (omega arith)) (earlier n h)
+
+plan-earlier : (p : Plan) → Earlier (planNumber p)
+unfolding planNumber
+plan-earlier p =
+    let one : (b : Bool) → Earlier (pick b 0 PLAN) = λ b. earlier-test b PLAN (omega arith) in
+    earlier-then (one (groupsOk p))
+    (earlier-then (one (every (p .count) (valuesOk p)))
+    (earlier-then (one (every (p .count - 1) (fallsAfter p)))
+    (one (eqb (slotsBefore p (p .count)) 120))))
+
+state-earlier : (s : FrameState) → Earlier (stateNumber s)
+unfolding stateNumber soundNumber
+state-earlier s =
+    earlier-then
+    (earlier-then (earlier-pick (eqb (s .slot) 0) (earlier PLAN (omega arith)) (earlier 0 (omega arith)))
+    (earlier-then (plan-earlier (planIn s))
+    (earlier-test (settingsOk (s .mask) (s .start) && registerOk slotWidth (s .register)) REGISTER (omega arith))))
+    (earlier-test (leb (s .slot) 120) FULL (omega arith))
+
+slot-earlier : (s : FrameState) (t source coded : List ℕ) → Earlier (slotNumber s t source coded)
+unfolding slotNumber dataNumber lentNumber
+slot-earlier s t source coded =
+    earlier-then
+    (earlier-then (state-earlier s) (earlier-test (carries (planIn s) (s .slot)) DUMMY (omega arith)))
+    (earlier-then
+    (earlier-test (eqb (length source) (sourceOctets (rowsAt s)) && eqb (length coded) slotOctets) LENGTH (omega arith))
+    (earlier-test (tableOk (rowsAt s) t) TABLE (omega arith)))
+
+-- a reading that moves on is one that was refused for nothing before the slot itself was read
+pub read-moves : (s : FrameState) (t coded source : List ℕ) → MovesOn (readAnswer s t coded source .number) ↔ (slotNumber s t source coded ≡ 0)
+unfolding readAnswer readNumber
+read-moves s t coded source = (there (ℕ-discrete n 0), back)
+  where
+    n : ℕ
+    n = slotNumber s t source coded
+
+    found : ℕ
+    found = receivedNumber (rowsAt s) t (s .mask) (s .register) coded
+
+    there : Dec (n ≡ 0) → MovesOn (andThen n found) → n ≡ 0
+    there (yes e) m = e
+    there (no d) m = slot-earlier s t source coded (rw (then-first n found d) at m)
+
+    back : n ≡ 0 → MovesOn (andThen n found)
+    back e = rw (then-next n found e) (received-numbers (rowsAt s) t (s .mask) (s .register) coded)
+
+-- the state after a slot: one place on, with the register stepped over what is dispersed
+pub coded-state : (s : FrameState) (t source coded : List ℕ) → codeAnswer s t source coded .number ≡ 0 → codeAnswer s t source coded .state ≡ nextState s
+unfolding codeAnswer
+coded-state s t source coded h = rw (eq-eqb (slotNumber s t source coded) 0 h)
+
+pub read-state : (s : FrameState) (t coded source : List ℕ) → MovesOn (readAnswer s t coded source .number) → readAnswer s t coded source .state ≡ nextState s
+unfolding readAnswer
+read-state s t coded source m = rw (eq-eqb (slotNumber s t source coded) 0 (read-moves s t coded source .0 m))
+
+-- it is the same whether the slot was coded, read well, or read with 8, 9 or 10
+pub next-same : (s : FrameState) (t source coded t′ coded′ source′ : List ℕ)
+    → codeAnswer s t source coded .number ≡ 0 → MovesOn (readAnswer s t′ coded′ source′ .number)
+    → codeAnswer s t source coded .state ≡ readAnswer s t′ coded′ source′ .state
+next-same s t source coded t′ coded′ source′ h m = coded-state s t source coded h ∙ sym (read-state s t′ coded′ source′ m)
+
+-- a state handed back is never refused for its plan or its register by the next call
+next-sound : (s : FrameState) (t source coded : List ℕ) → slotNumber s t source coded ≡ 0 → soundNumber (nextState s) ≡ 0
+unfolding registerAfter
+next-sound s t source coded h =
+    let o = accepted-slot s t source coded h .place .ready .sound in
+    let n = coveredBits (rowsAt s) in
+    sound-yes (nextState s) (moved-sound s (registerAfter (rowsAt s) (s .mask) (s .register)) o (after-ok slotWidth (s .mask) (s .register) n (omega arith) (o .mask) (o .register)))
+
+pub coded-next : (s : FrameState) (t source coded : List ℕ) → codeAnswer s t source coded .number ≡ 0 → soundNumber (codeAnswer s t source coded .state) ≡ 0
+unfolding codeAnswer
+coded-next s t source coded h = rw (coded-state s t source coded h) (next-sound s t source coded h)
+
+pub read-next : (s : FrameState) (t coded source : List ℕ) → MovesOn (readAnswer s t coded source .number) → soundNumber (readAnswer s t coded source .state) ≡ 0
+read-next s t coded source m = rw (read-state s t coded source m) (next-sound s t source coded (read-moves s t coded source .0 m))
+
+-- that a call answers 0 with this state, and leaves these octets in its area
+pub record Answers (a : Answer) (area : List ℕ) (next : FrameState) (octets : List ℕ) : Type 0 where
+  pub number : a .number ≡ 0
+  pub state : a .state ≡ next
+  pub octets-are : area ≡ octets
+
+-- a slot that was coded with 0, read at the same state with the same table: 0, the same next state, header and data
+pub code-then-read : (s : FrameState) (t source coded out : List ℕ) → Octets source → length out ≡ length source
+    → codeAnswer s t source coded .number ≡ 0
+    → Answers (readAnswer s t (codeArea s t source coded) out) (readArea s t (codeArea s t source coded) out) (codeAnswer s t source coded .state) source
+unfolding codeAnswer codeArea readAnswer readArea readNumber
+code-then-read s t source coded out o l h =
+    let R = rowsAt s in
+    let c = slotOf R t (s .mask) (s .register) source in
+    let a = accepted-slot s t source coded h in
+    let again = coded-read R t (s .mask) (s .register) source (a .place .rows) (record { octets = o; long = a .areas .source-long }) in
+    let area : codeArea s t source coded ≡ c = rw (eq-eqb (slotNumber s t source coded) 0 h) in
+    let n : slotNumber s t out c ≡ 0 = slotNumber-lengths s t out c source coded l (length-slotOf R t (s .mask) (s .register) source ∙ sym (a .areas .coded-long)) ∙ h in
+    let k : readNumber s t c out ≡ 0 = then-both (slotNumber s t out c) _ n (again .number) in
+    rw area (record {
+      number = k;
+      state = sym (next-same s t source coded t c out h (inl k));
+      octets-are = rw (eq-eqb (readNumber s t c out) 0 k) (again .source);
+    })
+
+-- a slot that was read with 0, coded again at the same state with the same table: 0, the same next state, its octets
+pub read-then-code : (s : FrameState) (t coded source out : List ℕ) → Octets coded → length out ≡ length coded
+    → readAnswer s t coded source .number ≡ 0
+    → Answers (codeAnswer s t (readArea s t coded source) out) (codeArea s t (readArea s t coded source) out) (readAnswer s t coded source .state) coded
+unfolding codeAnswer codeArea readAnswer readArea readNumber
+read-then-code s t coded source out o l h =
+    let R = rowsAt s in
+    let m = sourceOf R (s .mask) (s .register) coded in
+    let z = then-zero (slotNumber s t source coded) _ h in
+    let a = accepted-slot s t source coded (z .0) in
+    let area : readArea s t coded source ≡ m = rw (eq-eqb (readNumber s t coded source) 0 h) in
+    let n : slotNumber s t m out ≡ 0 = slotNumber-lengths s t m out source coded (sourceOf-source R (s .mask) (s .register) coded .long ∙ sym (a .areas .source-long)) l ∙ z .0 in
+    rw area (record {
+      number = n;
+      state = next-same s t m out t coded source n (inl h);
+      octets-are = rw (eq-eqb (slotNumber s t m out) 0 n) (read-coded R t (s .mask) (s .register) coded (a .place .rows) (record { octets = o; long = a .areas .coded-long }) (z .1));
+    })
