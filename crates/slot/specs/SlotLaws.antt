@@ -36,12 +36,15 @@ sizes R w =
 
 pub length-plain : (m : List ℕ) → length (plain m) ≡ length m + 198
 unfolding plain
-length-plain m =
-    length-append m (bchBits m ++ stuffBits) ∙ omega (arith, length-append (bchBits m) stuffBits, length-bchBits m)
+length-plain m = simp (length-append, length-bchBits) (omega arith)
+
+bits-behind : (m x : List ℕ) → Bits m → Bits (m ++ (bchBits x ++ stuffBits))
+bits-behind m x z =
+    below-append 1 m (bchBits x ++ stuffBits) z (below-append 1 (bchBits x) stuffBits (bchBits-bits x) (below-replicate 1 6 1 (omega arith)))
 
 pub plain-bits : (m : List ℕ) → Bits m → Bits (plain m)
 unfolding plain
-plain-bits m z = below-append 1 m (bchBits m ++ stuffBits) z (below-append 1 (bchBits m) stuffBits (bchBits-bits m) (below-replicate 1 6 1 (omega arith)))
+plain-bits m z = bits-behind m _ z
 
 pub length-sent : (mask r : ℕ) (m : List ℕ) → length (sent mask r m) ≡ length m + 198
 unfolding sent
