@@ -17,3 +17,8 @@ refused n right found r e h = record { number = e; area = rw (ne-eqb n 0 (λ z. 
 
 pub accepted : (n : ℕ) (right found left : List ℕ) → n ≡ 0 → left ≡ right → Answered n right found 0 left
 accepted n right found left e d = record { number = sym e; area = rw (eq-eqb n 0 e) d }
+
+-- what one call made the call of the way back takes, and makes of it what was there before
+pub record BackAgain (n : ℕ) (made was : List ℕ) : Type 0 where
+  pub taken : n ≡ 0
+  pub same : made ≡ was

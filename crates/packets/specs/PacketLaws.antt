@@ -17,6 +17,7 @@ use Rattle.lists.specs.Parts.{part}
 use Rattle.lists.specs.PartLaws.{length-part}
 use Rattle.plan.specs.Rates.{rateOk, dataOctetsOf, packetsOf}
 use Rattle.plan.specs.RateLaws.{rate-sizes}
+use Rattle.packets.specs.Answers.{BackAgain}
 use Rattle.packets.specs.Packets.{syncOctet, carried, packed, restored, unpacked, beginsSync, sizeNumber, packNumber, unpackNumber}
 use Rattle.packets.specs.Pieces.{length-pieces, pieces-at, pieces-whole}
 
@@ -154,11 +155,6 @@ unfolding packNumber
 pack-ready-yes rate packets room r =
     then-both (sizeNumber rate (length packets) room) _ (sized-yes rate (length packets) room (r .sized)) (rw (r .syncs))
 
--- what one call made the other takes, and makes of it what was there before
-pub record BackAgain (number : ℕ) (made was : List ℕ) : Type 0 where
-  pub accepted : number ≡ 0
-  pub same : made ≡ was
-
 pub pack-unpack : (rate : ℕ) (packets : List ℕ) (room : ℕ) → packNumber rate packets room ≡ 0
     → BackAgain (unpackNumber rate (packed (packetsOf rate) packets) (length packets)) (unpacked (packetsOf rate) (packed (packetsOf rate) packets)) packets
 unfolding unpackNumber
@@ -166,7 +162,7 @@ pack-unpack rate packets room h =
     let r = pack-ready rate packets room h in
     let l = r .sized .packets in
     record {
-      accepted = sized-yes rate (length packets) _ (record { known = r .sized .known; packets = l; octets = length-packed (packetsOf rate) packets l });
+      taken = sized-yes rate (length packets) _ (record { known = r .sized .known; packets = l; octets = length-packed (packetsOf rate) packets l });
       same = unpacked-packed (packetsOf rate) packets l (r .syncs);
     }
 
@@ -178,7 +174,7 @@ unpack-pack rate octets room h =
     let l = s .octets in
     let n = packetsOf rate in
     record {
-      accepted =
+      taken =
           pack-ready-yes rate (unpacked n octets) (length octets)
           (record { sized = record { known = s .known; packets = length-unpacked n octets l; octets = l }; syncs = unpacked-syncs n octets l });
       same = packed-unpacked n octets l;
