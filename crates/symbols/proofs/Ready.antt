@@ -28,10 +28,11 @@ slot-areas m rate i slot run labels h e r =
 pub block-areas : (block run labels : List ℕ) → Lengths 3960 31680 (length block) (length labels) → length run ≡ 31680 → Areas 1 block run labels
 block-areas block run labels l r = areas 3960 1 31680 block run labels (record { low = omega arith; high = omega arith }) refl (omega arith) l r
 
--- the same labels, and the same octets, by other names of what they are made with
-pub labels-named : (m i s j : ℕ) (b d : Bool) (octets : List ℕ) → i ≡ m → j ≡ s → d ≡ b → labelsOfOctets i j d octets ≡ labelsOfOctets m s b octets
-labels-named m i s j b d octets p q r = cc
+-- the labels, and the octets, that the work left, by the names that the call has for what they are made with
+pub labels-left : (m i s j : ℕ) (b d : Bool) (octets left : List ℕ) → left ≡ labelsOfOctets i j d octets → i ≡ m → j ≡ s → d ≡ b
+    → left ≡ labelsOfOctets m s b octets
+labels-left m i s j b d octets left e p q r = cc
 
-pub octets-named : (n k m i s j : ℕ) (b d : Bool) (labels : List ℕ) → k ≡ n → i ≡ m → j ≡ s → d ≡ b
-    → octetsOfLabels k i j d labels ≡ octetsOfLabels n m s b labels
-octets-named n k m i s j b d labels o p q r = cc
+pub octets-left : (n k m i s j : ℕ) (b d : Bool) (labels left : List ℕ) → left ≡ octetsOfLabels k i j d labels → k ≡ n → i ≡ m → j ≡ s → d ≡ b
+    → left ≡ octetsOfLabels n m s b labels
+octets-left n k m i s j b d labels left e o p q r = cc

@@ -5,7 +5,7 @@ use lib.ListN.{length, replicate, length-replicate}
 use borrow.Author.Needs.{needs}
 use Rattle.symbols.specs.Answers.{refused, accepted}
 use Rattle.symbols.specs.CallLaws.{Lengths, block-labels-ready}
-use Rattle.symbols.proofs.Ready.{block-areas, octets-named}
+use Rattle.symbols.proofs.Ready.{block-areas, octets-left}
 use Rattle.symbols.proofs.calls.block_of_labels.Statement.{statement}
 use Rattle.symbols.proofs.calls.block_of_labels.Tie as tie
 
@@ -27,7 +27,7 @@ returns-2 c =
     let w = c .before .before .before in
     let b = w .before .before .before in
     accepted _ _ _ _ (sym (b .before .block-of-labels-number .ensures) ∙ b .if1 .left)
-    (w .unlabel-octets .ensures ∙ octets-named _ _ 1 1 _ _ _ _ _ (ready b .octets) refl (ready b .labels) refl)
+    (octets-left _ _ 1 1 _ _ _ _ _ _ (w .unlabel-octets .ensures) (ready b .octets) refl (ready b .labels) refl)
 
 pub block-of-labels-spec : {M : Type 1} → statement M
 block-of-labels-spec = tie.close (tie.spec (λ c κs. search needs) returns (λ c. search needs) unlabel-octets-requires (λ c. search needs) returns-2)

@@ -5,7 +5,7 @@ use lib.ListN.{length, replicate, length-replicate}
 use borrow.Author.Needs.{needs}
 use Rattle.symbols.specs.Answers.{refused, accepted}
 use Rattle.symbols.specs.CallLaws.{Lengths, block-ready}
-use Rattle.symbols.proofs.Ready.{block-areas, labels-named}
+use Rattle.symbols.proofs.Ready.{block-areas, labels-left}
 use Rattle.symbols.proofs.calls.labels_of_block.Statement.{statement}
 use Rattle.symbols.proofs.calls.labels_of_block.Tie as tie
 
@@ -27,7 +27,7 @@ returns-2 c =
     let w = c .before .before .before in
     let b = w .before .before .before in
     accepted _ _ _ _ (sym (b .before .block-number .ensures) ∙ b .if1 .left)
-    (w .label-octets .ensures ∙ labels-named 1 1 _ _ _ _ _ refl (ready b .labels) refl)
+    (labels-left 1 1 _ _ _ _ _ _ (w .label-octets .ensures) refl (ready b .labels) refl)
 
 pub labels-of-block-spec : {M : Type 1} → statement M
 labels-of-block-spec = tie.close (tie.spec (λ c κs. search needs) returns (λ c. search needs) label-octets-requires (λ c. search needs) returns-2)

@@ -5,7 +5,7 @@ use lib.ListN.{length, replicate, length-replicate}
 use borrow.Author.Needs.{needs}
 use Rattle.symbols.specs.Answers.{refused, accepted}
 use Rattle.symbols.specs.CallLaws.{SlotReady, slot-ready}
-use Rattle.symbols.proofs.Ready.{slot-areas, labels-named}
+use Rattle.symbols.proofs.Ready.{slot-areas, labels-left}
 use Rattle.symbols.proofs.calls.labels_of_slot.Statement.{statement}
 use Rattle.symbols.proofs.calls.labels_of_slot.Tie as tie
 
@@ -29,7 +29,7 @@ returns-2 c =
     let i = w .before .before .before .before in
     let b = i .before in
     accepted _ _ _ _ (sym (b .before .slot-number .ensures) ∙ b .if1 .left)
-    (w .label-octets .ensures ∙ labels-named _ _ _ _ _ _ _ (i .index .ensures .0) (ready b .lengths .labels) (w .before .before .before .right-to-left .ensures))
+    (labels-left _ _ _ _ _ _ _ _ (w .label-octets .ensures) (i .index .ensures .0) (ready b .lengths .labels) (w .before .before .before .right-to-left .ensures))
 
 pub labels-of-slot-spec : {M : Type 1} → statement M
 labels-of-slot-spec =

@@ -5,7 +5,7 @@ use lib.ListN.{length, replicate, length-replicate}
 use borrow.Author.Needs.{needs}
 use Rattle.symbols.specs.Answers.{refused, accepted}
 use Rattle.symbols.specs.CallLaws.{SlotReady, slot-labels-ready}
-use Rattle.symbols.proofs.Ready.{slot-areas, octets-named}
+use Rattle.symbols.proofs.Ready.{slot-areas, octets-left}
 use Rattle.symbols.proofs.calls.slot_of_labels.Statement.{statement}
 use Rattle.symbols.proofs.calls.slot_of_labels.Tie as tie
 
@@ -29,7 +29,7 @@ returns-2 c =
     let i = w .before .before .before .before in
     let b = i .before in
     accepted _ _ _ _ (sym (b .before .slot-of-labels-number .ensures) ∙ b .if1 .left)
-    (w .unlabel-octets .ensures ∙ octets-named _ _ _ _ _ _ _ _ _ (ready b .lengths .octets) (i .index .ensures .0) (ready b .lengths .labels) (w .before .before .before .right-to-left .ensures))
+    (octets-left _ _ _ _ _ _ _ _ _ _ (w .unlabel-octets .ensures) (ready b .lengths .octets) (i .index .ensures .0) (ready b .lengths .labels) (w .before .before .before .right-to-left .ensures))
 
 pub slot-of-labels-spec : {M : Type 1} → statement M
 slot-of-labels-spec =
