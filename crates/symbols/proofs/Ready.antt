@@ -9,7 +9,7 @@ use lib.ListN.{length}
 use Rattle.plan.specs.Rates.{symbolsOf}
 use Rattle.plan.specs.RateLaws.{Between, between}
 use Rattle.symbols.specs.CallLaws.{Lengths, SlotReady, slot-whole}
-use Rattle.symbols.specs.Labels.{labelsOfOctets, octetsOfLabels}
+use Rattle.symbols.specs.Labels.{slotOctets, blockOctets, blockLabels, labelsOfOctets, octetsOfLabels}
 use Rattle.symbols.specs.Needs.{Areas}
 
 -- the areas of n octets and s labels of m bits, with an area for the bits
@@ -23,10 +23,10 @@ areas n m s octets run labels b whole few l r =
 
 pub slot-areas : (m rate i : ℕ) (slot run labels : List ℕ) → SlotReady m rate (length slot) (length labels) → i ≡ m → length run ≡ 44880 → Areas i slot run labels
 slot-areas m rate i slot run labels h e r =
-    rw e (areas 5610 m (symbolsOf m) slot run labels (between 1 5 m (h .known)) (slot-whole m (h .known)) (div-le-self 44880 m) (h .lengths) r)
+    rw e (areas slotOctets m (symbolsOf m) slot run labels (between 1 5 m (h .known)) (slot-whole m (h .known)) (div-le-self 44880 m) (h .lengths) r)
 
-pub block-areas : (block run labels : List ℕ) → Lengths 3960 31680 (length block) (length labels) → length run ≡ 31680 → Areas 1 block run labels
-block-areas block run labels l r = areas 3960 1 31680 block run labels (record { low = omega arith; high = omega arith }) refl (omega arith) l r
+pub block-areas : (block run labels : List ℕ) → Lengths blockOctets blockLabels (length block) (length labels) → length run ≡ 31680 → Areas 1 block run labels
+block-areas block run labels l r = areas blockOctets 1 blockLabels block run labels (record { low = omega arith; high = omega arith }) refl (omega arith) l r
 
 -- the labels, and the octets, that the work left, by the names that the call has for what they are made with
 pub labels-left : (m i s j : ℕ) (b d : Bool) (octets left : List ℕ) → left ≡ labelsOfOctets i j d octets → i ≡ m → j ≡ s → d ≡ b

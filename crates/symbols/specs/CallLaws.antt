@@ -17,7 +17,7 @@ use Rattle.plan.specs.Rates.{rateOk, modulationOk, symbolsOf}
 use Rattle.plan.specs.RateLaws.{symbols-whole}
 use Rattle.symbols.specs.Answers.{BackAgain}
 use Rattle.symbols.specs.Index.{rightToLeft}
-use Rattle.symbols.specs.Labels.{labelsOfOctets, octetsOfLabels, labelsOfSlot, slotOfLabels, labelsOfBlock, blockOfLabels, lengthNumber, labelNumber, slotNumber, slotOfLabelsNumber, blockNumber, blockOfLabelsNumber}
+use Rattle.symbols.specs.Labels.{slotOctets, blockOctets, blockLabels, labelsOfOctets, octetsOfLabels, labelsOfSlot, slotOfLabels, labelsOfBlock, blockOfLabels, lengthNumber, labelNumber, slotNumber, slotOfLabelsNumber, blockNumber, blockOfLabelsNumber}
 use Rattle.symbols.specs.LabelLaws.{length-octet-labels, octet-labels-below, length-label-octets, octets-labels, labels-octets, labels-equal}
 
 -- what lengths with number 0 are
@@ -79,14 +79,14 @@ module _ (n m s : ℕ) (leftward : Bool) (whole : 8 * n ≡ m * s) where
 pub record SlotReady (m r x y : ℕ) : Type 0 where
   pub known : modulationOk m ≡ true
   pub rate : rateOk r ≡ true
-  pub lengths : Lengths 5610 (symbolsOf m) x y
+  pub lengths : Lengths slotOctets (symbolsOf m) x y
 
 pub slot-ready : (m rate x y : ℕ) → slotNumber m rate x y ≡ 0 → SlotReady m rate x y
 unfolding slotNumber
 slot-ready m rate x y h =
     let a = then-zero (pick (modulationOk m && rateOk rate) 0 1) _ h in
     let t = pick-yes (modulationOk m && rateOk rate) 0 0 (a .0) .0 in
-    record { known = and-left (modulationOk m) _ t; rate = and-right (modulationOk m) _ t; lengths = lengths 5610 (symbolsOf m) x y (a .1) }
+    record { known = and-left (modulationOk m) _ t; rate = and-right (modulationOk m) _ t; lengths = lengths slotOctets (symbolsOf m) x y (a .1) }
 
 -- what the way back with number 0 had
 pub slot-labels-ready : (m rate : ℕ) (labels : List ℕ) (room : ℕ) → slotOfLabelsNumber m rate labels room ≡ 0 → SlotReady m rate room (length labels)
@@ -94,12 +94,12 @@ unfolding slotOfLabelsNumber
 slot-labels-ready m rate labels room h = slot-ready m rate room (length labels) (then-zero (slotNumber m rate room (length labels)) _ h .0)
 
 -- with modulation and rate known, only the lengths are left to refuse
-slot-next : (m rate x y : ℕ) → modulationOk m ≡ true → rateOk rate ≡ true → slotNumber m rate x y ≡ lengthNumber 5610 (symbolsOf m) x y
+slot-next : (m rate x y : ℕ) → modulationOk m ≡ true → rateOk rate ≡ true → slotNumber m rate x y ≡ lengthNumber slotOctets (symbolsOf m) x y
 unfolding slotNumber
 slot-next m rate x y p q = rw (p, q)
 
 -- a slot's bits are shared out among its symbols
-pub slot-whole : (m : ℕ) → modulationOk m ≡ true → 8 * 5610 ≡ m * symbolsOf m
+pub slot-whole : (m : ℕ) → modulationOk m ≡ true → 8 * slotOctets ≡ m * symbolsOf m
 slot-whole m h = sym (symbols-whole m h)
 
 -- the labels of a slot make the slot again
@@ -108,7 +108,7 @@ pub slot-labels-slot : (m rate : ℕ) (slot : List ℕ) (room : ℕ) → slotNum
 unfolding slotOfLabelsNumber
 slot-labels-slot m rate slot room h z =
     let r = slot-ready m rate (length slot) room h in
-    let b = octets-back 5610 m (symbolsOf m) (rightToLeft m rate) (slot-whole m (r .known)) slot room (sym (slot-next m rate (length slot) room (r .known) (r .rate)) ∙ h) z in
+    let b = octets-back slotOctets m (symbolsOf m) (rightToLeft m rate) (slot-whole m (r .known)) slot room (sym (slot-next m rate (length slot) room (r .known) (r .rate)) ∙ h) z in
     record { taken = rw (slot-next m rate (length slot) (length (labelsOfSlot m rate slot)) (r .known) (r .rate)) (b .taken); same = b .same }
 
 -- the slot made of labels has these labels
@@ -117,20 +117,20 @@ pub labels-slot-labels : (m rate : ℕ) (labels : List ℕ) (room : ℕ) → slo
 unfolding slotOfLabelsNumber
 labels-slot-labels m rate labels room h =
     let r = slot-labels-ready m rate labels room h in
-    let b = labels-back 5610 m (symbolsOf m) (rightToLeft m rate) (slot-whole m (r .known)) labels room (rw (slot-next m rate room (length labels) (r .known) (r .rate)) at h) in
+    let b = labels-back slotOctets m (symbolsOf m) (rightToLeft m rate) (slot-whole m (r .known)) labels room (rw (slot-next m rate room (length labels) (r .known) (r .rate)) at h) in
     record { taken = slot-next m rate _ (length labels) (r .known) (r .rate) ∙ b .taken; same = b .same }
 
 -- the labels of two slots are equal exactly where the slots are
-pub slots-equal : (m rate : ℕ) → modulationOk m ≡ true → (xs ys : List ℕ) → length xs ≡ 5610 → length ys ≡ 5610 → Octets xs → Octets ys
+pub slots-equal : (m rate : ℕ) → modulationOk m ≡ true → (xs ys : List ℕ) → length xs ≡ slotOctets → length ys ≡ slotOctets → Octets xs → Octets ys
     → (labelsOfSlot m rate xs ≡ labelsOfSlot m rate ys) ↔ (xs ≡ ys)
-slots-equal m rate h = labels-equal m (symbolsOf m) (rightToLeft m rate) 5610 (slot-whole m h)
+slots-equal m rate h = labels-equal m (symbolsOf m) (rightToLeft m rate) slotOctets (slot-whole m h)
 
 -- what a block call with number 0 had
-pub block-ready : (x y : ℕ) → blockNumber x y ≡ 0 → Lengths 3960 31680 x y
+pub block-ready : (x y : ℕ) → blockNumber x y ≡ 0 → Lengths blockOctets blockLabels x y
 unfolding blockNumber
-block-ready x y h = lengths 3960 31680 x y h
+block-ready x y h = lengths blockOctets blockLabels x y h
 
-pub block-labels-ready : (labels : List ℕ) (room : ℕ) → blockOfLabelsNumber labels room ≡ 0 → Lengths 3960 31680 room (length labels)
+pub block-labels-ready : (labels : List ℕ) (room : ℕ) → blockOfLabelsNumber labels room ≡ 0 → Lengths blockOctets blockLabels room (length labels)
 unfolding blockOfLabelsNumber
 block-labels-ready labels room h = block-ready room (length labels) (then-zero (blockNumber room (length labels)) _ h .0)
 
@@ -138,15 +138,15 @@ block-labels-ready labels room h = block-ready room (length labels) (then-zero (
 pub block-labels-block : (block : List ℕ) (room : ℕ) → blockNumber (length block) room ≡ 0 → Octets block
     → BackAgain (blockOfLabelsNumber (labelsOfBlock block) (length block)) (blockOfLabels (labelsOfBlock block)) block
 unfolding blockNumber blockOfLabelsNumber
-block-labels-block = octets-back 3960 1 31680 false refl
+block-labels-block = octets-back blockOctets 1 blockLabels false refl
 
 -- the block made of labels has these labels
 pub labels-block-labels : (labels : List ℕ) (room : ℕ) → blockOfLabelsNumber labels room ≡ 0
     → BackAgain (blockNumber (length (blockOfLabels labels)) (length labels)) (labelsOfBlock (blockOfLabels labels)) labels
 unfolding blockNumber blockOfLabelsNumber
-labels-block-labels = labels-back 3960 1 31680 false refl
+labels-block-labels = labels-back blockOctets 1 blockLabels false refl
 
 -- the labels of two blocks are equal exactly where the blocks are
-pub blocks-equal : (xs ys : List ℕ) → length xs ≡ 3960 → length ys ≡ 3960 → Octets xs → Octets ys
+pub blocks-equal : (xs ys : List ℕ) → length xs ≡ blockOctets → length ys ≡ blockOctets → Octets xs → Octets ys
     → (labelsOfBlock xs ≡ labelsOfBlock ys) ↔ (xs ≡ ys)
-blocks-equal = labels-equal 1 31680 false 3960 refl
+blocks-equal = labels-equal 1 blockLabels false blockOctets refl

@@ -37,7 +37,17 @@ unfolding strideOf
 stride-small m = stride-pick (inOrder m) m
 
 module _ (m s : ℕ) (leftward : Bool) where
-  below : (ordered : Bool) (r k : ℕ) → r < s → k < m → pick ordered (r * m + k) (columnOf m leftward k * s + r) < m * s
+  -- the definitions with the test for bits in order as a parameter: each law goes by its two cases
+  abbrev bitBy : Bool → ℕ → ℕ → ℕ
+  bitBy ordered r k = pick ordered (r * m + k) (columnOf m leftward k * s + r)
+
+  abbrev rowBy : Bool → ℕ → ℕ
+  rowBy ordered j = pick ordered (j / m) (j % s)
+
+  abbrev placeBy : Bool → ℕ → ℕ
+  placeBy ordered j = pick ordered (j % m) (columnOf m leftward (j / s))
+
+  below : (ordered : Bool) (r k : ℕ) → r < s → k < m → bitBy ordered r k < m * s
   below true r k h l = rw (mul-comm m s) (digits-lt h l)
   below false r k h l = digits-lt (column-below m leftward k l) h
 
@@ -46,8 +56,7 @@ module _ (m s : ℕ) (leftward : Bool) where
   unfolding bitAt
   bit-below = below (inOrder m)
 
-  row : (ordered : Bool) (r k : ℕ) → r < s → k < m
-      → pick ordered (pick ordered (r * m + k) (columnOf m leftward k * s + r) / m) (pick ordered (r * m + k) (columnOf m leftward k * s + r) % s) ≡ r
+  row : (ordered : Bool) (r k : ℕ) → r < s → k < m → rowBy ordered (bitBy ordered r k) ≡ r
   row true r k h l = digits-div r l
   row false r k h l = digits-mod (columnOf m leftward k) h
 
@@ -56,8 +65,7 @@ module _ (m s : ℕ) (leftward : Bool) where
   unfolding bitAt rowOf
   row-of-bit = row (inOrder m)
 
-  place : (ordered : Bool) (r k : ℕ) → r < s → k < m
-      → pick ordered (pick ordered (r * m + k) (columnOf m leftward k * s + r) % m) (columnOf m leftward (pick ordered (r * m + k) (columnOf m leftward k * s + r) / s)) ≡ k
+  place : (ordered : Bool) (r k : ℕ) → r < s → k < m → placeBy ordered (bitBy ordered r k) ≡ k
   place true r k h l = digits-mod r l
   place false r k h l = ap (columnOf m leftward) (digits-div (columnOf m leftward k) h) ∙ column-twice m leftward k l
 
@@ -72,8 +80,23 @@ module _ (m s : ℕ) (leftward : Bool) where
     sym (place-of-bit r k a b) ∙ ap (placeOf m s leftward) e ∙ place-of-bit i j c d,
   )
 
-  there : (ordered : Bool) (j : ℕ) → j < m * s
-      → pick ordered (pick ordered (j / m) (j % s) * m + pick ordered (j % m) (columnOf m leftward (j / s))) (columnOf m leftward (pick ordered (j % m) (columnOf m leftward (j / s))) * s + pick ordered (j / m) (j % s)) ≡ j
+  row-within : (ordered : Bool) (j : ℕ) → j < m * s → rowBy ordered j < s
+  row-within true j h = div-lt-iff-lt-mul (positive-right s m j (rw (mul-comm s m) h)) .1 (rw (mul-comm s m) h)
+  row-within false j h = mod-lt j (positive-right m s j h)
+
+  pub row-below : (j : ℕ) → j < m * s → rowOf m s j < s
+  unfolding rowOf
+  row-below = row-within (inOrder m)
+
+  place-within : (ordered : Bool) (j : ℕ) → j < m * s → placeBy ordered j < m
+  place-within true j h = mod-lt j (positive-right s m j (rw (mul-comm s m) h))
+  place-within false j h = column-below m leftward (j / s) (div-lt-iff-lt-mul (positive-right m s j h) .1 h)
+
+  pub place-below : (j : ℕ) → j < m * s → placeOf m s leftward j < m
+  unfolding placeOf
+  place-below = place-within (inOrder m)
+
+  there : (ordered : Bool) (j : ℕ) → j < m * s → bitBy ordered (rowBy ordered j) (placeBy ordered j) ≡ j
   there true j h = div-add-mod' j m
   there false j h =
       ap (λ (q : ℕ). q * s + j % s) (column-twice m leftward (j / s) (div-lt-iff-lt-mul (positive-right m s j h) .1 h)) ∙ div-add-mod' j s
@@ -83,24 +106,21 @@ module _ (m s : ℕ) (leftward : Bool) where
   unfolding bitAt rowOf placeOf
   bit-there = there (inOrder m)
 
-  row-within : (ordered : Bool) (j : ℕ) → j < m * s → pick ordered (j / m) (j % s) < s
-  row-within true j h = div-lt-iff-lt-mul (positive-right s m j (rw (mul-comm s m) h)) .1 (rw (mul-comm s m) h)
-  row-within false j h = mod-lt j (positive-right m s j h)
+  -- bit j has one label, that of its row, and one place in it
+  pub record Once (j : ℕ) : Type 0 where
+    pub row : rowOf m s j < s
+    pub place : placeOf m s leftward j < m
+    pub here : bitAt m s leftward (rowOf m s j) (placeOf m s leftward j) ≡ j
+    pub only : (r k : ℕ) → r < s → k < m → bitAt m s leftward r k ≡ j → (r ≡ rowOf m s j) × (k ≡ placeOf m s leftward j)
 
-  pub row-below : (j : ℕ) → j < m * s → rowOf m s j < s
-  unfolding rowOf
-  row-below = row-within (inOrder m)
+  pub bit-once : (j : ℕ) → j < m * s → Once j
+  bit-once j h =
+      let a = row-below j h in
+      let b = place-below j h in
+      let e = bit-there j h in
+      record { row = a; place = b; here = e; only = λ r k p q d. bit-one r k (rowOf m s j) (placeOf m s leftward j) p q a b (d ∙ sym e) }
 
-  place-within : (ordered : Bool) (j : ℕ) → j < m * s → pick ordered (j % m) (columnOf m leftward (j / s)) < m
-  place-within true j h = mod-lt j (positive-right s m j (rw (mul-comm s m) h))
-  place-within false j h = column-below m leftward (j / s) (div-lt-iff-lt-mul (positive-right m s j h) .1 h)
-
-  pub place-below : (j : ℕ) → j < m * s → placeOf m s leftward j < m
-  unfolding placeOf
-  place-below = place-within (inOrder m)
-
-  stepped : (ordered : Bool) (r k : ℕ)
-      → pick ordered (r * m + k) (columnOf m leftward k * s + r) ≡ pick ordered (0 * m + k) (columnOf m leftward k * s + 0) + pick ordered m 1 * r
+  stepped : (ordered : Bool) (r k : ℕ) → bitBy ordered r k ≡ bitBy ordered 0 k + pick ordered m 1 * r
   stepped true r k = omega (arith, zero-mul m, mul-comm r m)
   stepped false r k = omega arith
 

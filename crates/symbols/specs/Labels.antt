@@ -31,19 +31,30 @@ labelsOfOctets m s leftward octets = labelsOf m s leftward (bitsOf octets)
 unfoldable pub octetsOfLabels : ℕ → ℕ → ℕ → Bool → List ℕ → List ℕ
 octetsOfLabels n m s leftward labels = octetsOf n (bitsOfLabels m s leftward labels)
 
--- a slot of 5,610 octets under modulation m and a rate
+-- "A slot is 44,880 bits (5,610 octets)"
+abbrev pub slotOctets : ℕ
+slotOctets = 5610
+
+-- "3,960 octets", "31,680 BPSK labels"
+abbrev pub blockOctets : ℕ
+blockOctets = 3960
+
+abbrev pub blockLabels : ℕ
+blockLabels = 31680
+
+-- a slot under modulation m and a rate
 abbrev pub labelsOfSlot : ℕ → ℕ → List ℕ → List ℕ
 labelsOfSlot m rate slot = labelsOfOctets m (symbolsOf m) (rightToLeft m rate) slot
 
 abbrev pub slotOfLabels : ℕ → ℕ → List ℕ → List ℕ
-slotOfLabels m rate labels = octetsOfLabels 5610 m (symbolsOf m) (rightToLeft m rate) labels
+slotOfLabels m rate labels = octetsOfLabels slotOctets m (symbolsOf m) (rightToLeft m rate) labels
 
 -- "As symbols the block is 31,680 BPSK labels in bit order"
 abbrev pub labelsOfBlock : List ℕ → List ℕ
-labelsOfBlock block = labelsOfOctets 1 31680 false block
+labelsOfBlock block = labelsOfOctets 1 blockLabels false block
 
 abbrev pub blockOfLabels : List ℕ → List ℕ
-blockOfLabels labels = octetsOfLabels 3960 1 31680 false labels
+blockOfLabels labels = octetsOfLabels blockOctets 1 blockLabels false labels
 
 -- 4: octets and labels, given as their lengths, are as many as they must be
 unfoldable pub lengthNumber : ℕ → ℕ → ℕ → ℕ → ℕ
@@ -56,7 +67,7 @@ labelNumber m labels = pick (every (length labels) (λ r. ltb (getD labels r 0) 
 -- "Symbols: 1, 4, 12": both slot calls refuse 1 and 4
 unfoldable pub slotNumber : ℕ → ℕ → ℕ → ℕ → ℕ
 slotNumber m rate octets labels =
-    andThen (pick (modulationOk m && rateOk rate) 0 PLAN) (lengthNumber 5610 (symbolsOf m) octets labels)
+    andThen (pick (modulationOk m && rateOk rate) 0 PLAN) (lengthNumber slotOctets (symbolsOf m) octets labels)
 
 -- the way back refuses 12 too
 unfoldable pub slotOfLabelsNumber : ℕ → ℕ → List ℕ → ℕ → ℕ
@@ -64,7 +75,7 @@ slotOfLabelsNumber m rate labels room = andThen (slotNumber m rate room (length 
 
 -- "by calls of their own both ways that refuse 4, then 12"
 unfoldable pub blockNumber : ℕ → ℕ → ℕ
-blockNumber octets labels = lengthNumber 3960 31680 octets labels
+blockNumber octets labels = lengthNumber blockOctets blockLabels octets labels
 
 unfoldable pub blockOfLabelsNumber : List ℕ → ℕ → ℕ
 blockOfLabelsNumber labels room = andThen (blockNumber room (length labels)) (labelNumber 1 labels)

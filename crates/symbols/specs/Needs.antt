@@ -13,7 +13,7 @@ pub record PlaceOf (m s k : ℕ) : Type 0 where
   pub place : k < m
   pub few : s ≤ 44880
 
--- as many bits as s labels have under modulation m
+-- as many bits as the labels have under modulation m
 pub record Shared (m : ℕ) (bits labels : List ℕ) : Type 0 where
   pub known : Between 1 5 m
   pub long : length bits ≡ m * length labels

@@ -2,6 +2,8 @@
 ghost use lib.ListN.{length};
 ghost use Rattle.symbols.specs.Answers.{Answered};
 ghost use Rattle.symbols.specs.Labels.{labelsOfSlot, slotOfLabels, labelsOfBlock, blockOfLabels, slotNumber, slotOfLabelsNumber, blockNumber, blockOfLabelsNumber};
+use crate::BLOCK_BITS;
+use crate::SLOT_BITS;
 use crate::numbers::block_number;
 use crate::numbers::block_of_labels_number;
 use crate::numbers::slot_number;
@@ -9,11 +11,6 @@ use crate::numbers::slot_of_labels_number;
 use crate::places::right_to_left;
 use crate::runs::label_octets;
 use crate::runs::unlabel_octets;
-
-// The bits of a slot, and of a TMCC block.
-const SLOT_BITS: usize = 44880;
-
-const BLOCK_BITS: usize = 31680;
 
 // The labels of a slot; a refusal leaves the labels as they were.
 pub fn labels_of_slot(modulation: u16, rate: u16, slot: &[u8], labels: &mut [u8]) -> u8

@@ -4,6 +4,10 @@ ghost use mathlib.Core.Bool.{_&&_};
 ghost use Prim.Native.Nat.{_≤_};
 ghost use lib.Dec.{leb};
 ghost use Rattle.symbols.specs.Labels.{lengthNumber, labelNumber, slotNumber, slotOfLabelsNumber, blockNumber, blockOfLabelsNumber};
+use crate::BLOCK_BITS;
+use crate::BLOCK_OCTETS;
+use crate::SLOT_BITS;
+use crate::SLOT_OCTETS;
 
 // Whether x is a number from 1 to most.
 fn known(x: u16, most: u16) -> bool
@@ -50,12 +54,18 @@ pub fn slot_number(modulation: u16, rate: u16, octets: usize, labels: usize) -> 
 {
     if known(modulation, 5) {
         if known(rate, 11) {
-            return length_number(5610, 44880 / lists::index(modulation), octets, labels);
+            return length_number(
+                SLOT_OCTETS,
+                SLOT_BITS / lists::index(modulation),
+                octets,
+                labels,
+            );
         }
     }
     refusal::PLAN
 }
 
+// What the way back of a slot tests: the same, then the labels.
 pub fn slot_of_labels_number(modulation: u16, rate: u16, labels: &[u8], room: usize) -> u8
     ensures { λ r. ⌜ r ≡ slotOfLabelsNumber modulation rate (now (labels .entry)) room ⌝ }
 {
@@ -66,13 +76,14 @@ pub fn slot_of_labels_number(modulation: u16, rate: u16, labels: &[u8], room: us
     label_number(lists::index(modulation), labels)
 }
 
-// What both block calls test: the lengths.
+// What both block calls test: the lengths; a label has one bit, so there are as many labels as bits.
 pub fn block_number(octets: usize, labels: usize) -> u8
     ensures { λ r. ⌜ r ≡ blockNumber octets labels ⌝ }
 {
-    length_number(3960, 31680, octets, labels)
+    length_number(BLOCK_OCTETS, BLOCK_BITS, octets, labels)
 }
 
+// What the way back of a block tests: the same, then the labels, of one bit each.
 pub fn block_of_labels_number(labels: &[u8], room: usize) -> u8
     ensures { λ r. ⌜ r ≡ blockOfLabelsNumber (now (labels .entry)) room ⌝ }
 {

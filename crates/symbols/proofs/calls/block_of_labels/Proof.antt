@@ -5,12 +5,13 @@ use lib.ListN.{length, replicate, length-replicate}
 use borrow.Author.Needs.{needs}
 use Rattle.symbols.specs.Answers.{refused, accepted}
 use Rattle.symbols.specs.CallLaws.{Lengths, block-labels-ready}
+use Rattle.symbols.specs.Labels.{blockOctets, blockLabels}
 use Rattle.symbols.proofs.Ready.{block-areas, octets-left}
 use Rattle.symbols.proofs.calls.block_of_labels.Statement.{statement}
 use Rattle.symbols.proofs.calls.block_of_labels.Tie as tie
 
 -- what number 0 says
-ready : (c : tie.Else1) → Lengths 3960 31680 (length (c .before .before .before .before .args .block .now)) (length (c .before .before .before .before .args .labels .now))
+ready : (c : tie.Else1) → Lengths blockOctets blockLabels (length (c .before .before .before .before .args .block .now)) (length (c .before .before .before .before .args .labels .now))
 ready c = block-labels-ready _ _ (sym (c .before .block-of-labels-number .ensures) ∙ c .if1 .left)
 
 returns : tie.Need-returns

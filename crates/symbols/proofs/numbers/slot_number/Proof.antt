@@ -4,7 +4,7 @@ use Prim.Native.Nat.{ℕ, _/_}
 use native.Mathlib.Omega.{arith}
 use borrow.Author.Needs.{needs}
 use Rattle.plan.specs.RateLaws.{between}
-use Rattle.symbols.specs.Labels.{lengthNumber, slotNumber}
+use Rattle.symbols.specs.Labels.{slotOctets, lengthNumber, slotNumber}
 use Rattle.symbols.proofs.numbers.slot_number.Statement.{statement}
 use Rattle.symbols.proofs.numbers.slot_number.Tie as tie
 
@@ -20,7 +20,7 @@ returns c =
     let t = r .before .before in
     let a = t .before .before .args in
     rw (sym (t .before .known .ensures) ∙ t .if1 .taken, sym (r .before .known2 .ensures) ∙ r .if2 .taken)
-    (c .length-number .ensures ∙ ap (λ (m : ℕ). lengthNumber 5610 (44880 / m) (a .octets) (a .labels)) (c .before .index .ensures .0))
+    (c .length-number .ensures ∙ ap (λ (m : ℕ). lengthNumber slotOctets (44880 / m) (a .octets) (a .labels)) (c .before .index .ensures .0))
 
 returns-2 : tie.Need-returns-2
 unfolding slotNumber
