@@ -3,7 +3,9 @@ use mathlib.Core.Path.{sym, ap, _∙_}
 use Prim.Native.Nat.{ℕ, _/_}
 use native.Mathlib.Omega.{arith}
 use borrow.Author.Needs.{needs}
-use Rattle.plan.specs.RateLaws.{between}
+use borrow.Author.Tests.{leb-true}
+use lib.Dec.{leb}
+use Rattle.lists.specs.ChoiceLaws.{and-left}
 use Rattle.symbols.specs.Labels.{slotOctets, lengthNumber, slotNumber}
 use Rattle.symbols.proofs.numbers.slot_number.Statement.{statement}
 use Rattle.symbols.proofs.numbers.slot_number.Tie as tie
@@ -11,7 +13,8 @@ use Rattle.symbols.proofs.numbers.slot_number.Tie as tie
 div-length-number : tie.Need-div-length-number
 div-length-number c =
     let t = c .before .before .before in
-    omega (arith, c .index .ensures .0, between 1 5 (t .before .before .args .modulation) (sym (t .before .known .ensures) ∙ t .if1 .taken))
+    let m = t .before .before .args .modulation in
+    omega (arith, c .index .ensures .0, leb-true 1 m (and-left (leb 1 m) _ (sym (t .before .known .ensures) ∙ t .if1 .taken)))
 
 returns : tie.Need-returns
 unfolding slotNumber
