@@ -1,0 +1,5 @@
+pub mod Answers
+pub mod Needs
+pub mod Pieces
+pub mod Packets
+pub mod PacketLaws
