@@ -11,6 +11,7 @@ use native.Mathlib.Omega.{arith}
 use borrow.Author.Tests.{eq-eqb}
 use lib.Dec.{eqb, leb}
 use lib.ListN.{length, take-append-drop}
+use lib.Seq.{take-at}
 use Rattle.lists.specs.Runs.{Octets}
 use Rattle.lists.specs.Choice.{pick, andThen}
 use Rattle.lists.specs.ChoiceLaws.{then-zero, then-next, then-first, then-both}
@@ -50,7 +51,7 @@ slot-received R t mask r source = record { octets = slotOf-octets R t mask r sou
 module _ (R : ℕ) (m : List ℕ) (l : length m ≡ messageBits R) where
   pub plain-message : messageIn R (plain m) ≡ m
   unfolding plain
-  plain-message = first-of-three m (bchBits m) stuffBits (messageBits R) 192 l (length-bchBits m)
+  plain-message = take-at m _ (messageBits R) l
 
   pub plain-bch : bchIn R (plain m) ≡ bchBits m
   unfolding plain
