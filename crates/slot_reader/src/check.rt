@@ -2,6 +2,8 @@
 ghost use mathlib.Core.Path.{_≡_};
 ghost use Rattle.slot.specs.Calls.{checkNumber};
 ghost use Rattle.slot_reader.specs.Stages.{formNumber};
+use crate::parity::MOST_POSITIONS;
+use crate::parity::SLOT_BITS;
 use crate::parity::parity_number;
 
 const SLOT_OCTETS: usize = 5610;
@@ -33,7 +35,7 @@ pub fn check_parity(rate: u16, table: &[u16], coded: &[u8]) -> u8
     if number != 0 {
         return number;
     }
-    let mut bits = [0u8; 44880];
-    let mut sums = [0u8; 29546];
+    let mut bits = [0u8; SLOT_BITS];
+    let mut sums = [0u8; MOST_POSITIONS];
     parity_number(plan::rows(rate), table, coded, &mut bits, &mut sums)
 }

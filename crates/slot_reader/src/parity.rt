@@ -7,6 +7,11 @@ ghost use Rattle.slot.specs.Reading.{parityRight};
 ghost use Rattle.slot_reader.specs.Needs.{Checked, Received};
 ghost use Rattle.slot_reader.specs.Stages.{wrongPosition, wrongNumber};
 
+// The bits of a slot, and the most parity positions that a slot has, those of rate 1: what a call makes room for.
+pub const SLOT_BITS: usize = 44880;
+
+pub const MOST_POSITIONS: usize = 29546;
+
 // The lowest position at which the parity of a slot's bits is wrong, or M where there is none.
 pub fn first_wrong(rows: usize, table: &[u16], bits: &[u8], sums: &mut [u8]) -> usize
     requires { ⌜ Checked rows (now table) (now bits) (now sums) ⌝ }

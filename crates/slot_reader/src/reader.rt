@@ -1,6 +1,8 @@
 // The call that reads a slot.
 ghost use mathlib.Core.Path.{_≡_};
 ghost use Rattle.slot.specs.Calls.{readAnswer, readArea};
+use crate::parity::MOST_POSITIONS;
+use crate::parity::SLOT_BITS;
 use crate::received;
 use plan::Answer;
 use plan::FrameState;
@@ -15,8 +17,8 @@ pub fn read_slot(state: FrameState, table: &[u16], coded: &[u8], source: &mut [u
     if number != 0 {
         return Answer { number, state };
     }
-    let mut bits = [0u8; 44880];
-    let mut sums = [0u8; 29546];
+    let mut bits = [0u8; SLOT_BITS];
+    let mut sums = [0u8; MOST_POSITIONS];
     let rows = slot::rows_at(state);
     let read = received::read(
         rows,

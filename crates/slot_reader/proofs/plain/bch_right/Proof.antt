@@ -1,3 +1,4 @@
+-- `slot_reader::plain::bch_right`: the BCH bits of the message, compared.
 use borrow.Author.Needs.{needs}
 use Rattle.slot_reader.proofs.plain.bch_right.Statement.{statement}
 use Rattle.slot_reader.proofs.plain.bch_right.Tie as tie
@@ -6,12 +7,4 @@ returns : tie.Need-returns
 returns c = cc
 
 pub bch-right-spec : {M : Type 1} → statement M
-bch-right-spec =
-    tie.close
-    (tie.spec
-    (λ c. search needs)  -- slice-aggregate-of-bits src/plain.rt:17:27
-    (λ c κs. search needs)  -- of-bits-requires src/plain.rt:17:5
-    (λ c. search needs)  -- slice-aggregate-same-run src/plain.rt:18:20
-    (λ c κs. search needs)  -- same-run-requires src/plain.rt:18:5
-    returns
-    )
+bch-right-spec = tie.close (tie.spec (λ c. search needs) (λ c κs. search needs) (λ c. search needs) (λ c κs. search needs) returns)

@@ -40,14 +40,14 @@ gather-requires c κs =
     }
 
 -- what the test of the BCH bits says
-bch-tested : (c : tie.After-bch-right) → c .bch-right .result ≡ bchRight (c .before .before .before .before .before .args .rows) (c .before .before .before .before .before .args .plain .now)
+bch-tested : (c : tie.After-bch-right) → let a = c .before .before .before .before .before .args in c .bch-right .result ≡ bchRight (a .rows) (a .plain .now)
 bch-tested c =
     let k = c .before .before .before in
     let s = k .before .before in
     c .bch-right .ensures ∙ bch-is (s .args .rows) (s .args .plain .now) _ (k .message-bits .ensures)
 
 -- the stuff bits as a number
-stuff-tested : (c : tie.After-gather) → c .gather .result ≡ number 6 (stuffIn (c .before .before .before .before .before .before .before .before .args .rows) (c .before .before .before .before .before .before .before .before .args .plain .now))
+stuff-tested : (c : tie.After-gather) → let a = c .before .before .before .before .before .before .before .before .args in c .gather .result ≡ number 6 (stuffIn (a .rows) (a .plain .now))
 stuff-tested c =
     let k = c .before .before .before .before .before .before in
     let s = k .before .before in

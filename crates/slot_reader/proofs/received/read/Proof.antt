@@ -13,8 +13,8 @@ use Rattle.slot_reader.proofs.Parts.{take-lent, taken-off-bits}
 use Rattle.slot_reader.proofs.received.read.Statement.{statement}
 use Rattle.slot_reader.proofs.received.read.Tie as tie
 
--- the bits lent
-lent : (c : tie.After-bits2) → take (c .before .before .before .before .before .before .before .before .covered-bits .result - 0) (c .before .before .before .before .before .bare .last .1 .1 .1 .1 .1 .0) ≡ takenOff (c .before .before .before .before .before .before .before .before .before .before .before .before .before .before .args .rows) (c .before .before .before .before .before .before .before .before .before .before .before .before .before .before .args .mask) (c .before .before .before .before .before .before .before .before .before .before .before .before .before .before .args .register) (c .before .before .before .before .before .before .before .before .before .before .before .before .before .before .args .coded .now)
+-- the bits lent to the tests
+lent : (c : tie.After-bits2) → let b = c .before .before .before .before .before in let n = b .before .before .before in let a = n .before .before .before .before .before .before .args in take (n .covered-bits .result - 0) (b .bare .last .1 .1 .1 .1 .1 .0) ≡ takenOff (a .rows) (a .mask) (a .register) (a .coded .now)
 lent c =
     let b = c .before .before .before .before .before in
     let n = b .before .before .before in
