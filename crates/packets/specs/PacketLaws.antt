@@ -17,7 +17,7 @@ use Rattle.lists.specs.Parts.{part}
 use Rattle.lists.specs.PartLaws.{length-part}
 use Rattle.plan.specs.Rates.{rateOk, dataOctetsOf, packetsOf}
 use Rattle.plan.specs.RateLaws.{rate-sizes}
-use Rattle.packets.specs.Answers.{BackAgain}
+use Rattle.refusal.specs.Answers.{BackAgain}
 use Rattle.packets.specs.Packets.{syncOctet, carried, packed, restored, unpacked, beginsSync, sizeNumber, packNumber, unpackNumber}
 use Rattle.packets.specs.Pieces.{length-pieces, pieces-at, pieces-whole}
 

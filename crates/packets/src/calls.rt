@@ -2,7 +2,7 @@
 ghost use mathlib.Core.Path.{_≡_};
 ghost use lib.ListN.{length};
 ghost use Rattle.plan.specs.Rates.{packetsOf};
-ghost use Rattle.packets.specs.Answers.{Answered};
+ghost use Rattle.refusal.specs.Answers.{Answered};
 ghost use Rattle.packets.specs.Packets.{packed, unpacked, sizeNumber, packNumber, unpackNumber};
 use crate::carry::leave_out;
 use crate::carry::put_back;

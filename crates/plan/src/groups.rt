@@ -1,21 +1,10 @@
 // The rules of a plan, as four tests over the whole of it: number of groups, values, order, total.
 ghost use mathlib.Core.Path.{_≡_};
-ghost use mathlib.Core.Bool.{_&&_};
 ghost use Prim.Native.Nat.{_+_, _-_, _≤_, _<_};
-ghost use lib.Dec.{leb};
 ghost use Rattle.lists.specs.Count.{every};
 ghost use Rattle.plan.specs.Plans.{valuesOk, fallsAfter, slotsBefore, planNumber};
 use crate::Plan;
-
-// Whether x is a number from 1 to most.
-fn known(x: u16, most: u16) -> bool
-    ensures { λ r. ⌜ r ≡ (leb 1 x && leb x most) ⌝ }
-{
-    if x < 1 {
-        return false;
-    }
-    x <= most
-}
+use crate::rates::known;
 
 fn values_ok(plan: Plan, g: usize) -> bool
     requires { ⌜ g < 8 ⌝ }

@@ -7,6 +7,7 @@ mod state;
 pub use groups::plan_number;
 pub use places::place_of;
 pub use rates::data_octets;
+pub use rates::known;
 pub use rates::packets;
 pub use rates::parity_bits;
 pub use rates::parity_step;

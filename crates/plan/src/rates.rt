@@ -1,6 +1,18 @@
-// What a rate's number says of its slots: all are 0, or none of the bits, for a number that is no rate's.
+// Rates and modulations by their numbers, and what a rate says of its slots: 0 rows for a number that is no rate's.
+ghost use mathlib.Core.Bool.{_&&_};
 ghost use mathlib.Core.Path.{_≡_};
+ghost use lib.Dec.{leb};
 ghost use Rattle.plan.specs.Rates.{rowsOf, stepOf, parityBitsOf, dataOctetsOf, packetsOf};
+
+// Whether x is a number from 1 to most: a rate where that is 11, a modulation where it is 5.
+pub fn known(x: u16, most: u16) -> bool
+    ensures { λ r. ⌜ r ≡ (leb 1 x && leb x most) ⌝ }
+{
+    if x < 1 {
+        return false;
+    }
+    x <= most
+}
 
 const ROWS: [usize; 12] = [0, 41, 49, 61, 73, 81, 89, 93, 97, 101, 105, 109];
 

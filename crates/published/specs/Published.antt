@@ -1,20 +1,16 @@
 -- The published parity tables, and the call that copies one.
-use mathlib.Core.Path.{_≡_}
-use mathlib.Core.Bool.{Bool, _&&_}
 use mathlib.Core.List.{List, [], _∷_, _++_}
 use Prim.Native.Nat.{ℕ, zero, suc, _-_}
-use lib.Dec.{eqb, leb}
-use lib.ListN.{length, getD}
+use lib.Dec.{eqb}
+use lib.ListN.{length}
 use Rattle.lists.specs.Choice.{pick, andThen}
+use Rattle.refusal.specs.Numbers.{PLAN, LENGTH}
+use Rattle.plan.specs.Rates.{rateOk}
 use Rattle.published.specs.Printed.{rate1, rate2, rate3, rate4, rate5, rate6, rate7, rate8, rate9, rate10, rate11}
 
 -- the rows of the eleven tables
 unfoldable pub printed : List (List (List ℕ))
 printed = rate1 ∷ rate2 ∷ rate3 ∷ rate4 ∷ rate5 ∷ rate6 ∷ rate7 ∷ rate8 ∷ rate9 ∷ rate10 ∷ rate11 ∷ []
-
--- document 01, "Rates and slot": the row counts R of the rates 1 to 11
-unfoldable pub rowCounts : List ℕ
-rowCounts = 41 ∷ 49 ∷ 61 ∷ 73 ∷ 81 ∷ 89 ∷ 93 ∷ 97 ∷ 101 ∷ 105 ∷ 109 ∷ []
 
 -- document 01, "Checks in the slot": "for each of the R rows a count .., then that many different addresses"
 unfoldable pub form : List (List ℕ) → List ℕ
@@ -35,19 +31,6 @@ tableAt k = form (nth printed k)
 abbrev pub tableOf : ℕ → List ℕ
 tableOf rate = tableAt (rate - 1)
 
--- the rows of that table, R
-abbrev pub rowsOf : ℕ → ℕ
-rowsOf rate = getD rowCounts (rate - 1) 0
-
--- whether there is such a rate ("Rates are numbered 1 to 11")
-abbrev pub known : ℕ → Bool
-known rate = leb 1 rate && leb rate 11
-
 -- document 01, "Refusal list": 1 where the rate is unknown, then 4 where the area isn't exactly the table's length
 unfoldable pub copyNumber : ℕ → List ℕ → ℕ
-copyNumber rate area = andThen (pick (known rate) 0 1) (pick (eqb (length area) (length (tableOf rate))) 0 4)
-
--- the number of a copy and the area that it leaves: the table, or what was found there
-pub record Copied (rate : ℕ) (found area : List ℕ) (number : ℕ) : Type 0 where
-  pub is : number ≡ copyNumber rate found
-  pub copied : area ≡ pick (eqb (copyNumber rate found) 0) (tableOf rate) found
+copyNumber rate area = andThen (pick (rateOk rate) 0 PLAN) (pick (eqb (length area) (length (tableOf rate))) 0 LENGTH)

@@ -1,53 +1,49 @@
 -- Laws of the published tables: each is accepted; the number of a copy.
-use mathlib.Core.Path.{_≡_, refl, sym}
+use mathlib.Core.Path.{_≡_, refl}
 use mathlib.Core.Bool.{true, false}
 use mathlib.Core.List.{List}
-use Prim.Native.Nat.{ℕ, suc, _-_, _<_, _≤_}
+use Prim.Native.Nat.{ℕ, _+_, _-_, _<_, _≤_}
 use native.Mathlib.Omega.{arith}
 use borrow.Author.Tests.{le-leb, lt-leb, eq-eqb, ne-eqb}
 use lib.Dec.{leb}
-use lib.ListN.{length, getD}
+use lib.ListN.{length}
 use Rattle.lists.specs.ChoiceLaws.{and-both}
 use Rattle.lists.specs.Count.{every}
 use Rattle.lists.specs.CountLaws.{every-at}
 use Rattle.ldpc.specs.Tables.{rowStart, addressOk, rowOk, rowsOk, tableOk}
 use Rattle.published.specs.Printed.{rate1, rate2, rate3, rate4, rate5, rate6, rate7, rate8, rate9, rate10, rate11}
-use Rattle.published.specs.Published.{printed, rowCounts, form, nth, tableAt, tableOf, rowsOf, known, copyNumber, Copied}
+use Rattle.published.specs.Published.{printed, form, nth, tableAt, tableOf, copyNumber}
+use Rattle.plan.specs.Rates.{rateOk, rowsOf}
 
 -- the test of all eleven tables, computed
-all-accepted : every 11 (λ k. tableOk (getD rowCounts k 0) (tableAt k)) ≡ true
-unfolding every tableOk rowsOk rowOk rowStart addressOk rowCounts tableAt form nth printed rate1 rate2 rate3 rate4 rate5 rate6 rate7 rate8 rate9 rate10 rate11
+all-accepted : every 11 (λ k. tableOk (rowsOf (k + 1)) (tableAt k)) ≡ true
+unfolding every tableOk rowsOk rowOk rowStart addressOk rowsOf tableAt form nth printed rate1 rate2 rate3 rate4 rate5 rate6 rate7 rate8 rate9 rate10 rate11
 all-accepted = refl
 
 -- each published table is an accepted table of its rate's rows
 pub accepted : (rate : ℕ) → 1 ≤ rate → rate ≤ 11 → tableOk (rowsOf rate) (tableOf rate) ≡ true
-accepted rate l h = every-at 11 (λ k. tableOk (getD rowCounts k 0) (tableAt k)) all-accepted (rate - 1) (omega arith)
+accepted rate l h =
+    let e : rate - 1 + 1 ≡ rate = omega arith in
+    rw e at (every-at 11 (λ k. tableOk (rowsOf (k + 1)) (tableAt k)) all-accepted (rate - 1) (omega arith))
 
-pub known-yes : (rate : ℕ) → 1 ≤ rate → rate ≤ 11 → known rate ≡ true
+pub known-yes : (rate : ℕ) → 1 ≤ rate → rate ≤ 11 → rateOk rate ≡ true
 known-yes rate l h = and-both (leb 1 rate) (leb rate 11) (le-leb 1 rate l) (le-leb rate 11 h)
 
-pub known-low : (rate : ℕ) → rate < 1 → known rate ≡ false
+pub known-low : (rate : ℕ) → rate < 1 → rateOk rate ≡ false
 known-low rate h = rw (lt-leb 1 rate h)
 
-pub known-high : (rate : ℕ) → 11 < rate → known rate ≡ false
+pub known-high : (rate : ℕ) → 11 < rate → rateOk rate ≡ false
 known-high rate h = rw (le-leb 1 rate (omega arith), lt-leb rate 11 h)
 
 module _ (rate : ℕ) (found : List ℕ) where
-  pub number-unknown : known rate ≡ false → copyNumber rate found ≡ 1
+  pub number-unknown : rateOk rate ≡ false → copyNumber rate found ≡ 1
   unfolding copyNumber
   number-unknown h = rw h
 
-  pub number-long : known rate ≡ true → (length found ≡ length (tableOf rate) → ⊥) → copyNumber rate found ≡ 4
+  pub number-long : rateOk rate ≡ true → (length found ≡ length (tableOf rate) → ⊥) → copyNumber rate found ≡ 4
   unfolding copyNumber
   number-long h n = rw (h, ne-eqb (length found) (length (tableOf rate)) n)
 
-  pub number-good : known rate ≡ true → length found ≡ length (tableOf rate) → copyNumber rate found ≡ 0
+  pub number-good : rateOk rate ≡ true → length found ≡ length (tableOf rate) → copyNumber rate found ≡ 0
   unfolding copyNumber
   number-good h e = rw (h, eq-eqb (length found) (length (tableOf rate)) e)
-
-  -- a refusal leaves the area as found
-  pub refused : (n : ℕ) → copyNumber rate found ≡ suc n → Copied rate found found (suc n)
-  refused n e = record { is = sym e; copied = rw (e, ne-eqb (suc n) 0 (λ z. omega arith)) }
-
-  pub copied : (area : List ℕ) → copyNumber rate found ≡ 0 → area ≡ tableOf rate → Copied rate found area 0
-  copied area e h = record { is = sym e; copied = rw e h }

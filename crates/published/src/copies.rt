@@ -4,14 +4,10 @@ ghost use Prim.Native.Nat.{_≤_};
 ghost use lib.ListN.{length};
 ghost use Rattle.lists.specs.Count.{joined};
 ghost use Rattle.lists.specs.CountLaws.{joinedAt};
-ghost use Rattle.published.specs.Published.{tableAt, Copied};
+ghost use Rattle.refusal.specs.Answers.{Answered};
+ghost use Rattle.published.specs.Published.{tableAt, tableOf, copyNumber};
 use crate::data::STARTS;
 use crate::data::TABLES;
-
-// Document 01's refusal numbers.
-const PLAN: u8 = 1;
-
-const LENGTH: u8 = 4;
 
 // Where the table of rate k + 1 starts, and at 11 the end of the last.
 fn start(k: usize) -> usize
@@ -35,19 +31,19 @@ fn copy(from: &[u16], to: &mut [u16])
 // Copies the table of a rate from all of them.
 fn copy_from(tables: &[u16], rate: u16, area: &mut [u16]) -> u8
     requires { ⌜ now tables ≡ joined 11 tableAt ⌝ }
-    ensures { λ r. ⌜ Copied rate (now (area .entry)) (now (area .exit)) r ⌝ }
+    ensures { λ r. ⌜ Answered (copyNumber rate (now (area .entry))) (tableOf rate) (now (area .entry)) r (now (area .exit)) ⌝ }
 {
     if rate < 1 {
-        return PLAN;
+        return refusal::PLAN;
     }
     if 11 < rate {
-        return PLAN;
+        return refusal::PLAN;
     }
     let k = lists::index(rate) - 1;
     let from = start(k);
     let to = start(k + 1);
     if area.len() != to - from {
-        return LENGTH;
+        return refusal::LENGTH;
     }
     copy(&tables[from..to], area);
     0
@@ -55,7 +51,7 @@ fn copy_from(tables: &[u16], rate: u16, area: &mut [u16]) -> u8
 
 // Copies the published table of a rate from 1 to 11 into an area of exactly its length.
 pub fn copy_table(rate: u16, area: &mut [u16]) -> u8
-    ensures { λ r. ⌜ Copied rate (now (area .entry)) (now (area .exit)) r ⌝ }
+    ensures { λ r. ⌜ Answered (copyNumber rate (now (area .entry))) (tableOf rate) (now (area .entry)) r (now (area .exit)) ⌝ }
 {
     let tables = TABLES;
     copy_from(&tables, rate, area)

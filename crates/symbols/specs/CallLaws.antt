@@ -15,7 +15,7 @@ use Rattle.lists.specs.CountLaws.{every-at, every-all}
 use Rattle.lists.specs.Runs.{Octets}
 use Rattle.plan.specs.Rates.{rateOk, modulationOk, symbolsOf}
 use Rattle.plan.specs.RateLaws.{symbols-whole}
-use Rattle.symbols.specs.Answers.{BackAgain}
+use Rattle.refusal.specs.Answers.{BackAgain}
 use Rattle.symbols.specs.Index.{rightToLeft}
 use Rattle.symbols.specs.Labels.{slotOctets, blockOctets, blockLabels, labelsOfOctets, octetsOfLabels, labelsOfSlot, slotOfLabels, labelsOfBlock, blockOfLabels, lengthNumber, labelNumber, slotNumber, slotOfLabelsNumber, blockNumber, blockOfLabelsNumber}
 use Rattle.symbols.specs.LabelLaws.{length-octet-labels, octet-labels-below, length-label-octets, octets-labels, labels-octets, labels-equal}

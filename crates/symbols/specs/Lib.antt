@@ -1,4 +1,3 @@
-pub mod Answers
 pub mod Index
 pub mod IndexLaws
 pub mod Labels

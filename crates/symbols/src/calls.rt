@@ -1,6 +1,6 @@
 // The four calls: labels of a slot and of a TMCC block, and the way back.
 ghost use lib.ListN.{length};
-ghost use Rattle.symbols.specs.Answers.{Answered};
+ghost use Rattle.refusal.specs.Answers.{Answered};
 ghost use Rattle.symbols.specs.Labels.{labelsOfSlot, slotOfLabels, labelsOfBlock, blockOfLabels, slotNumber, slotOfLabelsNumber, blockNumber, blockOfLabelsNumber};
 use crate::BLOCK_BITS;
 use crate::SLOT_BITS;

@@ -1,23 +1,11 @@
 // The refusals of the calls.
 ghost use mathlib.Core.Path.{_≡_};
-ghost use mathlib.Core.Bool.{_&&_};
 ghost use Prim.Native.Nat.{_≤_};
-ghost use lib.Dec.{leb};
 ghost use Rattle.symbols.specs.Labels.{lengthNumber, labelNumber, slotNumber, slotOfLabelsNumber, blockNumber, blockOfLabelsNumber};
 use crate::BLOCK_BITS;
 use crate::BLOCK_OCTETS;
 use crate::SLOT_BITS;
 use crate::SLOT_OCTETS;
-
-// Whether x is a number from 1 to most.
-fn known(x: u16, most: u16) -> bool
-    ensures { λ r. ⌜ r ≡ (leb 1 x && leb x most) ⌝ }
-{
-    if x < 1 {
-        return false;
-    }
-    x <= most
-}
 
 // The refusal of a wrong length, or 0: there must be n octets and s labels.
 fn length_number(n: usize, s: usize, octets: usize, labels: usize) -> u8
@@ -52,8 +40,8 @@ fn label_number(modulation: usize, labels: &[u8]) -> u8
 pub fn slot_number(modulation: u16, rate: u16, octets: usize, labels: usize) -> u8
     ensures { λ r. ⌜ r ≡ slotNumber modulation rate octets labels ⌝ }
 {
-    if known(modulation, 5) {
-        if known(rate, 11) {
+    if plan::known(modulation, 5) {
+        if plan::known(rate, 11) {
             return length_number(
                 SLOT_OCTETS,
                 SLOT_BITS / lists::index(modulation),

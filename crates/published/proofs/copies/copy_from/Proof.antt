@@ -4,8 +4,9 @@ use Prim.Native.Nat.{ℕ, _+_, _-_}
 use native.Mathlib.Omega.{arith}
 use borrow.Author.Needs.{needs}
 use Rattle.lists.specs.CountLaws.{joinedAt}
-use Rattle.published.specs.Published.{tableAt}
-use Rattle.published.specs.PublishedLaws.{known-yes, known-low, known-high, number-unknown, number-long, number-good, refused, copied}
+use Rattle.published.specs.Published.{tableAt, tableOf}
+use Rattle.published.specs.PublishedLaws.{known-yes, known-low, known-high, number-unknown, number-long, number-good}
+use Rattle.refusal.specs.Answers.{refused, accepted}
 use Rattle.published.proofs.Starts.{Placed, placed}
 use Rattle.published.proofs.copies.copy_from.Statement.{statement}
 use Rattle.published.proofs.copies.copy_from.Tie as tie
@@ -13,12 +14,12 @@ use Rattle.published.proofs.copies.copy_from.Tie as tie
 returns : tie.Need-returns
 returns c =
     let a = c .before .before .before .args in
-    refused (a .rate) (a .area .now) 0 (number-unknown (a .rate) (a .area .now) (known-low (a .rate) (c .if1 .taken)))
+    refused _ (tableOf (a .rate)) (a .area .now) 1 (sym (number-unknown (a .rate) (a .area .now) (known-low (a .rate) (c .if1 .taken)))) (λ e. omega arith)
 
 returns-2 : tie.Need-returns-2
 returns-2 c =
     let a = c .before .before .before .before .args in
-    refused (a .rate) (a .area .now) 0 (number-unknown (a .rate) (a .area .now) (known-high (a .rate) (c .if2 .taken)))
+    refused _ (tableOf (a .rate)) (a .area .now) 1 (sym (number-unknown (a .rate) (a .area .now) (known-high (a .rate) (c .if2 .taken)))) (λ e. omega arith)
 
 -- the table at the rate's place
 place : (c : tie.After-start2) →
@@ -35,8 +36,9 @@ returns-3 : tie.Need-returns-3
 returns-3 c =
     let a = c .before .before .before .before .before .before .before .before .args in
     let p = place (c .before) in
-    refused (a .rate) (a .area .now) 3
-    (number-long (a .rate) (a .area .now) (known-yes (a .rate) (search needs) (search needs)) (λ e. c .if3 .taken (e ∙ sym (p .long))))
+    refused _ (tableOf (a .rate)) (a .area .now) 4
+    (sym (number-long (a .rate) (a .area .now) (known-yes (a .rate) (search needs) (search needs)) (λ e. c .if3 .taken (e ∙ sym (p .long)))))
+    (λ e. omega arith)
 
 copy-requires : tie.Need-copy-requires
 copy-requires c κs =
@@ -48,7 +50,7 @@ returns-4 c =
     let e = c .before .before .before .before .before in
     let a = e .before .before .before .before .before .before .before .before .args in
     let p = place (e .before) in
-    copied (a .rate) (a .area .now) _
+    accepted _ (tableOf (a .rate)) (a .area .now) _
     (number-good (a .rate) (a .area .now) (known-yes (a .rate) (search needs) (search needs)) (e .if3 .left ∙ p .long))
     (c .before .before .copy .ensures ∙ p .there)
 

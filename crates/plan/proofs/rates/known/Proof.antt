@@ -1,7 +1,7 @@
 -- `plan::known`: the two tests are those of the contract.
 use borrow.Author.Tests.{le-leb, lt-leb}
-use Rattle.plan.proofs.groups.known.Statement.{statement}
-use Rattle.plan.proofs.groups.known.Tie as tie
+use Rattle.plan.proofs.rates.known.Statement.{statement}
+use Rattle.plan.proofs.rates.known.Tie as tie
 
 returns : tie.Need-returns
 returns c = rw (lt-leb 1 (c .before .args .x) (c .if1 .taken))

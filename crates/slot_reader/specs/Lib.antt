@@ -1,0 +1,4 @@
+pub mod Stages
+pub mod StageLaws
+pub mod ReadLaws
+pub mod Needs

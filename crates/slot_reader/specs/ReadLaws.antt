@@ -1,0 +1,45 @@
+-- Laws of reading a slot: its answer and its area where the call is refused before the slot is looked at, and where not.
+use mathlib.Core.Path.{_≡_, ap₂}
+use mathlib.Core.List.{List}
+use Prim.Native.Nat.{ℕ}
+use lib.Dec.{eqb}
+use borrow.Author.Tests.{eq-eqb, ne-eqb}
+use Rattle.lists.specs.Choice.{pick}
+use Rattle.lists.specs.ChoiceLaws.{then-first, then-next}
+use Rattle.plan.specs.declared.FrameState.{FrameState}
+use Rattle.plan.specs.declared.Answer.{Answer}
+use Rattle.slot.specs.Reading.{receivedNumber, sourceOf}
+use Rattle.slot.specs.Calls.{rowsAt, slotNumber, nextState, readNumber, readAnswer, readArea}
+
+-- an answer is its number and its state
+pub answer≡ : {m n : ℕ} {s t : FrameState} → m ≡ n → s ≡ t → _≡_ {A = Answer} (record { number = m; state = s }) (record { number = n; state = t })
+answer≡ p q = ap₂ (λ (x : ℕ) (y : FrameState). record { number = x; state = y }) p q
+
+module _ (s : FrameState) (t c source : List ℕ) where
+  -- "A refusal changes no lent octet and no state handed in"
+  module _ (h : slotNumber s t source c ≡ 0 → ⊥) where
+    pub readNumber-refused : readNumber s t c source ≡ slotNumber s t source c
+    unfolding readNumber
+    readNumber-refused = then-first _ _ h
+
+    pub readAnswer-refused : readAnswer s t c source ≡ record { number = slotNumber s t source c; state = s }
+    unfolding readAnswer
+    readAnswer-refused = answer≡ readNumber-refused (rw (ne-eqb (slotNumber s t source c) 0 h))
+
+    pub readArea-refused : readArea s t c source ≡ source
+    unfolding readArea
+    readArea-refused = rw (readNumber-refused, ne-eqb (slotNumber s t source c) 0 h)
+
+  -- "save that 8, 9 and 10 move the slot reader on one place with the register stepped as for a good slot"
+  module _ (h : slotNumber s t source c ≡ 0) where
+    pub readNumber-looked : readNumber s t c source ≡ receivedNumber (rowsAt s) t (s .mask) (s .register) c
+    unfolding readNumber
+    readNumber-looked = then-next _ _ h
+
+    pub readAnswer-looked : readAnswer s t c source ≡ record { number = receivedNumber (rowsAt s) t (s .mask) (s .register) c; state = nextState s }
+    unfolding readAnswer
+    readAnswer-looked = answer≡ readNumber-looked (rw (eq-eqb (slotNumber s t source c) 0 h))
+
+    pub readArea-looked : readArea s t c source ≡ pick (eqb (receivedNumber (rowsAt s) t (s .mask) (s .register) c) 0) (sourceOf (rowsAt s) (s .mask) (s .register) c) source
+    unfolding readArea
+    readArea-looked = rw readNumber-looked

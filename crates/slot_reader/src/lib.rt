@@ -1,0 +1,9 @@
+// Reading a slot, and the lone parity check.
+mod check;
+mod parity;
+mod plain;
+mod reader;
+mod received;
+
+pub use check::check_parity;
+pub use reader::read_slot;
