@@ -1,7 +1,8 @@
 -- Demand 3 for slots at one place (document 01, "What demand 3 compares"): one row count, one parity table, one mask
--- and one register. When two slots are equal, when their BCH bits and their parities are, and that three slots added
+-- and one register. When two slots and their symbols are equal, when their BCH bits and their parities are, and that three slots added
 -- are the slot of the added header and data.
 use mathlib.Core.Path.{_≡_, refl, sym, ap, ap₂, _∙_}
+use mathlib.Core.Bool.{true}
 use mathlib.Core.List.{List, _++_, append-assoc}
 use mathlib.Core.Logic.{_↔_}
 use Prim.Native.Nat.{ℕ, _+_, _*_, _%_, _<_}
@@ -20,10 +21,13 @@ use Rattle.bch.specs.BchLaws.{length-bchBits, bchBits-bits, bchBits-equal, bchB
 use Rattle.ldpc.specs.Tables.{positions}
 use Rattle.ldpc.specs.Parity.{times, parityOf}
 use Rattle.ldpc.specs.ParityLaws.{parityOf-equal, parityOf-three}
+use Rattle.plan.specs.Rates.{modulationOk}
 use Rattle.plan.specs.RateLaws.{Rows}
 use Rattle.plan.specs.States.{slotWidth}
+use Rattle.symbols.specs.Labels.{labelsOfSlot}
+use Rattle.symbols.specs.CallLaws.{slots-equal as label-slots}
 use Rattle.slot.specs.Slots.{slotOctets, messageBits, sourceOctets, stuffBits, plain, sent, withParity, slotOf}
-use Rattle.slot.specs.SlotLaws.{Source, sizes, length-message, length-plain, length-covered, slot-bits, slot-covered, slot-parity}
+use Rattle.slot.specs.SlotLaws.{Source, sizes, length-slotOf, slotOf-octets, length-message, length-plain, length-covered, slot-bits, slot-covered, slot-parity}
 use Rattle.slot.specs.ThreeRuns.{second-of-three}
 use Rattle.slot.specs.Reading.{covered, parity, bchIn, sourceOf}
 use Rattle.slot.specs.RoundTrips.{coded-read}
@@ -63,6 +67,13 @@ module _ (R : ℕ) (t : List ℕ) (mask r : ℕ) (x y : List ℕ) (w : Rows R) (
     (λ e. sym (coded-read R t mask r x w a .source) ∙ ap (sourceOf R mask r) e ∙ coded-read R t mask r y w b .source),
     ap (slotOf R t mask r),
   )
+
+  -- "The symbols of a slot .. are the labels that its symbol call makes of its octets": under any modulation and rate they
+  -- are equal exactly when header and data are
+  pub labels-equal : (m rate : ℕ) → modulationOk m ≡ true → (labelsOfSlot m rate (slotOf R t mask r x) ≡ labelsOfSlot m rate (slotOf R t mask r y)) ↔ (x ≡ y)
+  labels-equal m rate h =
+      let e = label-slots m rate h (slotOf R t mask r x) (slotOf R t mask r y) (length-slotOf R t mask r x) (length-slotOf R t mask r y) (slotOf-octets R t mask r x) (slotOf-octets R t mask r y) in
+      ((λ d. slots-equal .0 (e .0 d)), (λ d. e .1 (slots-equal .1 d)))
 
   -- "all 192, both before dispersal ..": equal exactly when the generator divides the difference of header and data
   pub bch-equal : (bchBits (bitsOf x) ≡ bchBits (bitsOf y)) ↔ Divides generator (polynomialOf (added (bitsOf x) (bitsOf y)))
