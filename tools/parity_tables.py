@@ -1,13 +1,15 @@
 #!/usr/bin/env python3
-"""Takes the eleven parity tables from their prints, compares the prints, and writes the crate `published`'s data.
+"""Takes the eleven parity tables from their prints, compares the prints, and writes them where they are used.
 
 Usage, at the root of a checkout:
-    tools/parity_tables.py MAIN SECOND THIRD            compare the prints and say what was found
-    tools/parity_tables.py MAIN SECOND THIRD --write    the same, then write the two files of data
+    tools/parity_tables.py MAIN SECOND THIRD                compare the prints and say what was found
+    tools/parity_tables.py MAIN SECOND THIRD --write        the same, then write the crate `published`'s data
+    tools/parity_tables.py MAIN SECOND THIRD --reference    the same, then write the reference's tables
 
 MAIN is document 002 as text (its appendix tables 1 to 11), SECOND document 001, which prints them again, THIRD
-document 004, which prints the head of the table of rate 7. The two files are crates/published/specs/Printed.antt
-and crates/published/src/data.rt. docs/TABLES.md tells what the comparison found.
+document 004, which prints the head of the table of rate 7. The crate's files are crates/published/specs/Printed.antt
+and crates/published/src/data.rt, the reference's tests/reference/tables.txt. docs/TABLES.md tells what the comparison
+found.
 """
 import collections
 import re
@@ -124,13 +126,26 @@ def code(all_tables):
     )
 
 
+def reference(all_tables):
+    """A title for each rate, then a line for each row."""
+    lines = []
+    for k, table in enumerate(all_tables, 1):
+        lines += [f"rate {k} ({RATES[k - 1]})"] + [" ".join(map(str, row)) for row in table]
+    return "\n".join(lines) + "\n"
+
+
+def write(path, text):
+    with open(path, "w", encoding="utf8") as out:
+        out.write(text)
+
+
 def array(comment, name, kind, values):
     lines = [f"// {comment}", f"pub const {name}: [{kind}; {len(values)}] = ["]
     return "\n".join(lines + [f"    {value}," for value in values] + ["];"]) + "\n"
 
 
 def main(arguments):
-    main_path, second_path, third_path = [word for word in arguments if word != "--write"]
+    main_path, second_path, third_path = [word for word in arguments if not word.startswith("--")]
     first, second = tables(main_path), tables(second_path)
     print("The two whole prints, row by row:")
     for rate in range(1, 12):
@@ -149,9 +164,10 @@ def main(arguments):
     for rate, table in enumerate(all_tables, 1):
         examine(rate, table)
     if "--write" in arguments:
-        for path, text in (("specs/Printed.antt", specification(all_tables)), ("src/data.rt", code(all_tables))):
-            with open("crates/published/" + path, "w", encoding="utf8") as out:
-                out.write(text)
+        write("crates/published/specs/Printed.antt", specification(all_tables))
+        write("crates/published/src/data.rt", code(all_tables))
+    if "--reference" in arguments:
+        write("tests/reference/tables.txt", reference(all_tables))
 
 
 main(sys.argv[1:])

@@ -1,0 +1,9 @@
+// What the programs that try slots share: a frame of one rate, its published table, octets to code, and a digest.
+mod octets;
+mod rates;
+
+pub use octets::digest;
+pub use octets::fill;
+pub use rates::opened;
+pub use rates::source_length;
+pub use rates::table_length;

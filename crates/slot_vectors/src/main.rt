@@ -1,0 +1,13 @@
+// Slots at all eleven rates with the published tables: for each rate the first two slots of a frame, coded, read back,
+// and read with one bit damaged, the parity as sent or made anew for the damaged bits.
+mod anew;
+mod lines;
+mod slots;
+
+fn main() {
+    let mut rate: u16 = 1;
+    while rate <= 11 {
+        slots::of_rate(rate);
+        rate += 1;
+    }
+}

@@ -1,0 +1,99 @@
+//! A slot of document 002, 2.2.1.2: header, data, BCH bits, stuff bits, and the parity of all these as dispersed.
+use crate::{bch, dispersal, ldpc, tables::Table};
+
+pub const OCTETS: usize = 5610;
+pub const STUFF: [u8; 6] = [1; 6];
+pub const WIDTH: u32 = 25;
+
+/// Refusals of document 01.
+pub const PARITY_WRONG: u8 = 8;
+pub const BCH_WRONG: u8 = 9;
+pub const STUFF_WRONG: u8 = 10;
+
+/// What a rate fixes: its table and the generator of the outer code.
+pub struct Code {
+    pub table: Table,
+    pub generator: Vec<u8>,
+}
+
+impl Code {
+    pub fn new(table: Table) -> Code {
+        Code { table, generator: bch::generator() }
+    }
+
+    /// How many bits stand before the parity.
+    pub fn dispersed_bits(&self) -> usize {
+        ldpc::GROUP * self.table.len()
+    }
+
+    /// How many bits header and data have.
+    pub fn message_bits(&self) -> usize {
+        self.dispersed_bits() - bch::BITS - STUFF.len()
+    }
+}
+
+pub fn bits_of(octets: &[u8]) -> Vec<u8> {
+    octets.iter().flat_map(|octet| (0..8).rev().map(move |k| octet >> k & 1)).collect()
+}
+
+pub fn octets_of(bits: &[u8]) -> Vec<u8> {
+    bits.chunks(8).map(|eight| eight.iter().fold(0, |octet, bit| octet << 1 | bit)).collect()
+}
+
+/// The slot of a header and its data, and the register after it.
+pub fn code_slot(code: &Code, mask: u32, register: u32, source: &[u8]) -> (Vec<u8>, u32) {
+    let mut bits = bits_of(source);
+    assert_eq!(bits.len(), code.message_bits());
+    bits.extend(bch::bch_bits(&code.generator, &bits));
+    bits.extend(STUFF);
+    let after = dispersal::disperse(WIDTH, mask, register, &mut bits);
+    bits.extend(ldpc::parity(&code.table, &bits));
+    (octets_of(&bits), after)
+}
+
+/// Header and data of a slot, or the number of the first check that fails, and the register after it in each case.
+pub fn read_slot(code: &Code, mask: u32, register: u32, coded: &[u8]) -> (Result<Vec<u8>, u8>, u32) {
+    let mut bits = bits_of(coded);
+    let parity = bits.split_off(code.dispersed_bits());
+    let parity_holds = ldpc::parity(&code.table, &bits) == parity;
+    let after = dispersal::disperse(WIDTH, mask, register, &mut bits);
+    let (message, checks) = bits.split_at(code.message_bits());
+    let read = if !parity_holds {
+        Err(PARITY_WRONG)
+    } else if bch::bch_bits(&code.generator, message) != checks[..bch::BITS] {
+        Err(BCH_WRONG)
+    } else if checks[bch::BITS..] != STUFF {
+        Err(STUFF_WRONG)
+    } else {
+        Ok(octets_of(message))
+    };
+    (read, after)
+}
+
+#[cfg(test)]
+mod tests {
+    use super::*;
+    use crate::tables::tables;
+
+    #[test]
+    fn the_lengths_of_table_2_2_1_1() {
+        let data = [14960, 17952, 22440, 26928, 29920, 32912, 34408, 35904, 37400, 38896, 40392];
+        let parity = [29546, 26554, 22066, 17578, 14586, 11594, 10098, 8602, 7106, 5610, 4114];
+        for (rate, table) in tables().into_iter().enumerate() {
+            let code = Code::new(table);
+            assert_eq!(code.message_bits() - 176, data[rate]);
+            assert_eq!(8 * OCTETS - code.dispersed_bits(), parity[rate]);
+        }
+    }
+
+    #[test]
+    fn reading_gives_back_what_was_coded() {
+        for table in tables() {
+            let code = Code::new(table);
+            let source: Vec<u8> = (0..code.message_bits() / 8).map(|k| (k * k % 251) as u8).collect();
+            let (coded, after) = code_slot(&code, 1 << 24 | 1, 1, &source);
+            assert_eq!(coded.len(), OCTETS);
+            assert_eq!(read_slot(&code, 1 << 24 | 1, 1, &coded), (Ok(source), after));
+        }
+    }
+}

@@ -1,0 +1,57 @@
+//! The lines that the program `slot_vectors` must write: for each rate the first two slots of a frame, coded, read back,
+//! and read with one bit damaged, the parity as sent or made anew for the damaged bits.
+use crate::ldpc;
+use crate::samples::{digest, octets, MASK, START};
+use crate::slot::{bits_of, code_slot, octets_of, read_slot, Code, OCTETS, PARITY_WRONG};
+use crate::tables::tables;
+
+/// A slot whose first bit of an octet is the other one.
+fn damaged(coded: &[u8], octet: usize) -> Vec<u8> {
+    let mut slot = coded.to_vec();
+    slot[octet] ^= 0x80;
+    slot
+}
+
+/// A slot with its parity made anew.
+fn with_parity_anew(code: &Code, coded: &[u8]) -> Vec<u8> {
+    let mut bits = bits_of(coded);
+    bits.truncate(code.dispersed_bits());
+    bits.extend(ldpc::parity(&code.table, &bits));
+    octets_of(&bits)
+}
+
+/// What reading a slot gives: number, register after it, the digest of the octets read, or of those found where it is
+/// refused; and the number of the lone parity check.
+fn read_line(title: &str, code: &Code, register: u32, coded: &[u8]) {
+    let (read, after) = read_slot(code, MASK, register, coded);
+    let check = if with_parity_anew(code, coded) == coded { 0 } else { PARITY_WRONG };
+    let number = read.as_ref().err().copied().unwrap_or(0);
+    let source = read.unwrap_or_else(|_| octets(0, code.message_bits() / 8));
+    println!("{title} read {number} check {check} register {after} digest {}", digest(&source));
+}
+
+fn slot_lines(title: &str, code: &Code, register: u32, source: &[u8]) -> u32 {
+    let (coded, after) = code_slot(code, MASK, register, source);
+    println!("{title} coded 0 register {after} digest {}", digest(&coded));
+    read_line(&format!("{title} whole"), code, register, &coded);
+    let bch = source.len();
+    let places = [("header", 0), ("BCH", bch), ("stuff", bch + 24), ("parity", OCTETS - 1)];
+    for (name, octet) in places {
+        let slot = damaged(&coded, octet);
+        read_line(&format!("{title} {name} damaged"), code, register, &slot);
+        let slot = with_parity_anew(code, &slot);
+        read_line(&format!("{title} {name} damaged, parity anew"), code, register, &slot);
+    }
+    after
+}
+
+pub fn print() {
+    for (rate, table) in (1..).zip(tables()) {
+        let code = Code::new(table);
+        let mut register = START;
+        for slot in 1..=2 {
+            let source = octets(100 * rate + slot, code.message_bits() / 8);
+            register = slot_lines(&format!("rate {rate} slot {slot}"), &code, register, &source);
+        }
+    }
+}
