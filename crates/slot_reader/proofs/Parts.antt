@@ -6,7 +6,6 @@ use native.Mathlib.Omega.{arith}
 use lib.ListN.{length, take}
 use lib.Seq.{length-take-le, take-at}
 use borrow.Rule.Slice.PartMut.{putMid}
-use Rattle.lists.specs.Runs.{Bits}
 use Rattle.lists.specs.Parts.{part}
 use Rattle.lists.specs.PartLaws.{part-rest, length-part}
 use Rattle.bits.specs.Digits.{number}
@@ -14,7 +13,7 @@ use Rattle.bits.specs.Octets.{bitsOf}
 use Rattle.bits.specs.Same.{same}
 use Rattle.dispersal.specs.Register.{after}
 use Rattle.dispersal.specs.Dispersal.{dispersed}
-use Rattle.dispersal.specs.DispersalLaws.{length-dispersed, dispersed-bits}
+use Rattle.dispersal.specs.DispersalLaws.{length-dispersed}
 use Rattle.bch.specs.Bch.{bchBits}
 use Rattle.ldpc.specs.Parity.{lowestWrong}
 use Rattle.plan.specs.RateLaws.{Rows}
@@ -45,11 +44,6 @@ stuff-is R u k w e l =
     let z = sizes R w in
     let s : length (part (k + 192) (length u) u) ≡ 6 = length-part (k + 192) (length u) u (omega arith) ∙ omega arith in
     rw (s, part-rest (k + 192) u, e)
-
--- what the stages lend each other with dispersal taken off
-pub taken-off-bits : (R mask r : ℕ) (c : List ℕ) → Bits (takenOff R mask r c)
-unfolding takenOff
-taken-off-bits R mask r c = dispersed-bits slotWidth mask r (take (coveredBits R) (bitsOf c))
 
 -- dispersal taken off the bits before the parity, and the register after them
 module _ (R mask r : ℕ) (c all off : List ℕ) (n : ℕ) (e : n ≡ coveredBits R) (h : n ≤ length all) (b : all ≡ bitsOf c) where

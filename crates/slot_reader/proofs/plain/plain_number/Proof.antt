@@ -1,13 +1,13 @@
 -- `slot_reader::plain::plain_number`: the parts lent are those of the definitions, and each way out rewrites with the tests on the
 -- way to it.
 use mathlib.Core.Path.{_≡_, _∙_}
-use Prim.Native.Nat.{_+_, _-_}
+use Prim.Native.Nat.{_+_}
 use native.Mathlib.Omega.{arith}
 use lib.ListN.{length}
 use borrow.Author.Needs.{needs}
 use borrow.Author.Tests.{eq-eqb, ne-eqb}
 use Rattle.lists.specs.PartLaws.{length-part}
-use Rattle.lists.specs.RunLaws.{below-take, below-part}
+use Rattle.lists.specs.RunLaws.{below-part}
 use Rattle.bits.specs.Digits.{number}
 use Rattle.slot.specs.SlotLaws.{sizes}
 use Rattle.slot.specs.Reading.{plainNumber, stuffRight, stuffIn, bchRight}
@@ -23,7 +23,7 @@ bch-right-requires c κs =
     let z = sizes _ (s .pre .rate) in
     let m = k .message-bits .result in
     record {
-      bits = below-take 1 (m - 0) u (s .pre .bits);
+      bits = below-part 1 _ m u (s .pre .bits);
       long = length-part m (m + 192) u (omega (arith, k .message-bits .ensures, s .pre .all)) ∙ omega arith;
     }
 

@@ -7,9 +7,10 @@ use lib.Seq.{length-take-le}
 use borrow.Author.Needs.{needs}
 use Rattle.slot.specs.SlotLaws.{sizes}
 use Rattle.slot.specs.Reading.{takenOff, sourceOf}
+use Rattle.slot.specs.ReadingLaws.{takenOff-bits}
 use Rattle.slot_reader.specs.Stages.{numberOf}
 use Rattle.slot_reader.specs.StageLaws.{numberOf-is}
-use Rattle.slot_reader.proofs.Parts.{take-lent, taken-off-bits}
+use Rattle.slot_reader.proofs.Parts.{take-lent}
 use Rattle.slot_reader.proofs.received.read.Statement.{statement}
 use Rattle.slot_reader.proofs.received.read.Tie as tie
 
@@ -32,7 +33,7 @@ take-source-requires c κs =
       run = record {
         rate = s .pre .stepped .received .checked .rate;
         all = length-take-le (n .covered-bits .result - 0) all (omega (arith, n .covered-bits .ensures, b .bare .kept .1 .1 .1 .1 .1 .0, s .pre .stepped .received .checked .all)) ∙ omega (arith, n .covered-bits .ensures);
-        bits = rw (lent (c .before .before)) (taken-off-bits (a .rows) (a .mask) (a .register) (a .coded .now));
+        bits = rw (lent (c .before .before)) (takenOff-bits (a .rows) (a .mask) (a .register) (a .coded .now));
       };
       long = s .pre .long;
     }
