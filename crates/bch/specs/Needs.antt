@@ -20,3 +20,8 @@ pub record Entry (t : List ℕ) (octet : ℕ) : Type 0 where
 pub record Divided (t run : List ℕ) : Type 0 where
   pub table : Table t
   pub bits : Bits run
+
+-- a message of bits, and received BCH bits
+pub record Received (run received : List ℕ) : Type 0 where
+  pub bits : Bits run
+  pub long : length received ≡ 192

@@ -5,3 +5,4 @@ mod table;
 
 pub use message::of_bits;
 pub use message::of_octets;
+pub use message::right;

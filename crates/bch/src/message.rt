@@ -3,10 +3,11 @@ ghost use mathlib.Core.Path.{_≡_};
 ghost use lib.ListN.{length};
 ghost use Rattle.bits.specs.Digits.{digits};
 ghost use Rattle.bits.specs.Octets.{bitsOf};
+ghost use Rattle.bits.specs.Same.{same};
 ghost use Rattle.bch.specs.Division.{remainderOf};
 ghost use Rattle.bch.specs.Bch.{generator, bchBits};
 ghost use Rattle.bch.specs.Words.{worth, Table};
-ghost use Rattle.bch.specs.Needs.{Divided, Message};
+ghost use Rattle.bch.specs.Needs.{Divided, Message, Received};
 use crate::division;
 use crate::division::Words;
 use crate::table;
@@ -67,4 +68,14 @@ pub fn of_bits(run: &[u8], bch: &mut [u8])
 {
     let table = table::remainders();
     put(divide_bits(&table, run), bch);
+}
+
+// Whether the received bits are the BCH bits of the message.
+pub fn right(run: &[u8], received: &[u8]) -> bool
+    requires { ⌜ Received (now run) (now received) ⌝ }
+    ensures { λ r. ⌜ r ≡ same (bchBits (now (run .entry))) (now (received .entry)) ⌝ }
+{
+    let mut made = [0u8; 192];
+    of_bits(run, &mut made);
+    bits::same_run(&made, received)
 }

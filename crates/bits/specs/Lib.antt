@@ -7,3 +7,4 @@ pub mod Sums
 pub mod SumLaws
 pub mod Needs
 pub mod Same
+pub mod SameLaws

@@ -1,5 +1,5 @@
 -- Laws of sums modulo 2.
-use mathlib.Core.Path.{_≡_, refl, sym, ap, _∙_}
+use mathlib.Core.Path.{_≡_, refl, sym, ap, ap₂, _∙_}
 use mathlib.Core.List.{List, [], _∷_, _++_}
 use Prim.Native.Nat.{ℕ, zero, suc, _+_, _%_, _<_}
 use native.Mathlib.Nat.{not-suc-le-zero}
@@ -7,7 +7,7 @@ use native.Mathlib.Omega.{arith}
 use lib.ListN.{length, getD, take, drop}
 use lib.Seq.{ext-getD, take-nil, drop-nil}
 use Rattle.lists.specs.Runs.{Bits}
-use Rattle.bits.specs.Sums.{added}
+use Rattle.bits.specs.Sums.{added, addedThree}
 
 pub length-added : (u v : List ℕ) → length (added u v) ≡ length u
 unfolding added
@@ -105,3 +105,24 @@ unfolding added
 added-self [] k = refl
 added-self (a ∷ u) zero = double a
 added-self (a ∷ u) (suc k) = added-self u k
+
+pub length-three : (u v x : List ℕ) → length (addedThree u v x) ≡ length u
+length-three u v x = length-added (added u v) x ∙ length-added u v
+
+pub three-bits : (u v x : List ℕ) → Bits (addedThree u v x)
+three-bits u v x = added-bits (added u v) x
+
+-- three sums of runs end to end
+pub three-append : (u u′ v v′ x x′ : List ℕ) → length u ≡ length v → length u ≡ length x
+    → addedThree (u ++ u′) (v ++ v′) (x ++ x′) ≡ addedThree u v x ++ addedThree u′ v′ x′
+three-append u u′ v v′ x x′ k l =
+    ap (λ (s : List ℕ). added s (x ++ x′)) (added-append u u′ v v′ k) ∙ added-append (added u v) (added u′ v′) x x′ (length-added u v ∙ l)
+
+three-zero : (a : ℕ) → a < 2 → ((a + a) % 2 + a) % 2 ≡ a
+three-zero a h = omega arith
+
+-- a run of bits that stands three times stands once
+pub three-same : (u : List ℕ) → Bits u → addedThree u u u ≡ u
+unfolding added
+three-same [] z = refl
+three-same (a ∷ u) z = ap₂ (λ (y : ℕ) (s : List ℕ). y ∷ s) (three-zero a (z zero)) (three-same u (λ k. z (suc k)))

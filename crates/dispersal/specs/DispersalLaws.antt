@@ -7,8 +7,8 @@ use native.Mathlib.Numerals.{add-one}
 use native.Mathlib.Omega.{arith}
 use lib.ListN.{length, getD}
 use Rattle.lists.specs.Runs.{Bits}
-use Rattle.bits.specs.Sums.{added}
-use Rattle.bits.specs.SumLaws.{length-added}
+use Rattle.bits.specs.Sums.{added, addedThree}
+use Rattle.bits.specs.SumLaws.{length-added, added-assoc}
 use Rattle.dispersal.specs.Register.{step, after, top}
 use Rattle.dispersal.specs.RegisterLaws.{after-none, after-first}
 use Rattle.dispersal.specs.Dispersal.{dispersed}
@@ -82,7 +82,11 @@ dispersed-added w mask r (a ∷ u) (b ∷ v) l = cons≡ (with-one a b (top w r)
 
 -- three runs added: the register's bits stand three times, and so once
 pub dispersed-three : (w mask r : ℕ) (u v x : List ℕ) → length u ≡ length v → length u ≡ length x
-    → added (dispersed w mask r u) (added (dispersed w mask r v) (dispersed w mask r x)) ≡ dispersed w mask r (added u (added v x))
-dispersed-three w mask r u v x l m =
-    ap (added (dispersed w mask r u)) (dispersed-two w mask r v x (omega arith))
-    ∙ dispersed-added w mask r u (added v x) (l ∙ sym (length-added v x))
+    → dispersed w mask r (addedThree u v x) ≡ addedThree (dispersed w mask r u) (dispersed w mask r v) (dispersed w mask r x)
+dispersed-three w mask r u v x k l =
+    let d = dispersed w mask r in
+    let long = length-dispersed w mask r in
+    ap d (added-assoc u v x k)
+    ∙ sym (dispersed-added w mask r u (added v x) (k ∙ sym (length-added v x)))
+    ∙ ap (added (d u)) (sym (dispersed-two w mask r v x (omega arith)))
+    ∙ sym (added-assoc (d u) (d v) (d x) (long u ∙ k ∙ sym (long v)))

@@ -4,5 +4,6 @@ mod run;
 
 pub use register::mask_ok;
 pub use register::register_ok;
+pub use register::settings_ok;
 pub use register::stepped;
 pub use run::disperse;

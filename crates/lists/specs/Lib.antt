@@ -3,7 +3,9 @@ pub mod ChoiceLaws
 pub mod Count
 pub mod CountLaws
 pub mod Filling
+pub mod FillingLaws
 pub mod Parts
 pub mod PartLaws
 pub mod Runs
 pub mod RunLaws
+pub mod ThreeRuns

@@ -12,6 +12,10 @@ use Rattle.lists.specs.Parts.{part, put}
 pub length-part : (a e : ℕ) (xs : List ℕ) → e ≤ length xs → length (part a e xs) ≡ e - a
 length-part a e xs h = length-take-le (e - a) (drop a xs) (rw length-drop (omega arith))
 
+-- the part from the start, as `&xs[0..n]` is lent
+pub take-lent : (n m : ℕ) (xs : List ℕ) → n ≡ m → take (n - 0) xs ≡ take m xs
+take-lent n m xs e = let z : n - 0 ≡ m = omega arith in rw z
+
 -- the part to the end
 pub part-rest : (a : ℕ) (xs : List ℕ) → part a (length xs) xs ≡ drop a xs
 part-rest a xs = take-all (length xs - a) (drop a xs) (rw (length-drop a xs) (omega arith))

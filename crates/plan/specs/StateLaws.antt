@@ -8,12 +8,12 @@ use lib.Dec.{eqb, leb}
 use Rattle.lists.specs.Choice.{pick}
 use Rattle.lists.specs.ChoiceLaws.{and-left, and-right, then-zero, then-next, pick-yes, pick-no}
 use Rattle.refusal.specs.Numbers.{FULL}
-use Rattle.dispersal.specs.Register.{maskOk, registerOk}
+use Rattle.dispersal.specs.Register.{maskOk, registerOk, settingsOk}
 use Rattle.plan.specs.declared.Plan.{Plan}
 use Rattle.plan.specs.declared.FrameState.{FrameState}
 use Rattle.plan.specs.Plans.{planNumber}
 use Rattle.plan.specs.Places.{carries}
-use Rattle.plan.specs.States.{slotWidth, settingsOk, planIn, begun, movedOn, openNumber, opened, soundNumber, stateNumber, passNumber, passed}
+use Rattle.plan.specs.States.{slotWidth, planIn, begun, movedOn, openNumber, opened, soundNumber, stateNumber, passNumber, passed}
 
 -- a state that is refused neither for its plan nor for its register
 pub record Sound (s : FrameState) : Type 0 where
@@ -32,14 +32,14 @@ unfolding soundNumber
 sound s h =
     let a = then-zero (pick (eqb (s .slot) 0) 1 0) _ h in
     let b = then-zero (planNumber (planIn s)) _ (a .1) in
-    let t = pick-yes (settingsOk (s .mask) (s .start) && registerOk slotWidth (s .register)) 0 5 (b .1) .0 in
-    let u = and-left (settingsOk (s .mask) (s .start)) _ t in
+    let t = pick-yes (settingsOk slotWidth (s .mask) (s .start) && registerOk slotWidth (s .register)) 0 5 (b .1) .0 in
+    let u = and-left (settingsOk slotWidth (s .mask) (s .start)) _ t in
     record {
       numbered = positive (s .slot) (eqb-false (s .slot) 0 (pick-no (eqb (s .slot) 0) 0 0 (a .0) .0));
       plan = b .0;
       mask = and-left (maskOk slotWidth (s .mask)) _ u;
       start = and-right (maskOk slotWidth (s .mask)) _ u;
-      register = and-right (settingsOk (s .mask) (s .start)) _ t;
+      register = and-right (settingsOk slotWidth (s .mask) (s .start)) _ t;
     }
 
 pub sound-yes : (s : FrameState) → Sound s → soundNumber s ≡ 0
@@ -75,7 +75,7 @@ pub open-sound : (p : Plan) (mask start : ℕ) → openNumber p mask start ≡ 0
 unfolding openNumber
 open-sound p mask start h =
     let a = then-zero (planNumber p) _ h in
-    let t = pick-yes (settingsOk mask start) 0 5 (a .1) .0 in
+    let t = pick-yes (settingsOk slotWidth mask start) 0 5 (a .1) .0 in
     let u = and-right (maskOk slotWidth mask) _ t in
     record { numbered = omega arith; plan = a .0; mask = and-left (maskOk slotWidth mask) _ t; start = u; register = u }
 

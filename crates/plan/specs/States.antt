@@ -5,7 +5,7 @@ use lib.Dec.{eqb, leb}
 use lib.ListN.{replicate}
 use Rattle.lists.specs.Choice.{pick, andThen}
 use Rattle.refusal.specs.Numbers.{PLAN, DUMMY, FULL, REGISTER}
-use Rattle.dispersal.specs.Register.{maskOk, registerOk}
+use Rattle.dispersal.specs.Register.{registerOk, settingsOk}
 use Rattle.plan.specs.declared.Plan.{Plan}
 use Rattle.plan.specs.declared.FrameState.{FrameState}
 use Rattle.plan.specs.declared.Answer.{Answer}
@@ -39,13 +39,9 @@ movedOn s r =
 abbrev pub answer : ℕ → FrameState → FrameState → Answer
 answer n good refused = record { number = n; state = pick (eqb n 0) good refused }
 
--- "Its settings are mask and start of the 25-bit register"
-abbrev pub settingsOk : ℕ → ℕ → Bool
-settingsOk mask start = maskOk slotWidth mask && registerOk slotWidth start
-
--- "Opening: 1, 6"
+-- "Opening: 1, 6"; "Its settings are mask and start of the 25-bit register"
 unfoldable pub openNumber : Plan → ℕ → ℕ → ℕ
-openNumber p mask start = andThen (planNumber p) (pick (settingsOk mask start) 0 REGISTER)
+openNumber p mask start = andThen (planNumber p) (pick (settingsOk slotWidth mask start) 0 REGISTER)
 
 unfoldable pub opened : Plan → ℕ → ℕ → Answer
 opened p mask start = answer (openNumber p mask start) (begun p mask start) zeros
@@ -56,7 +52,7 @@ unfoldable pub soundNumber : FrameState → ℕ
 soundNumber s =
     andThen (pick (eqb (s .slot) 0) PLAN 0)
     (andThen (planNumber (planIn s))
-    (pick (settingsOk (s .mask) (s .start) && registerOk slotWidth (s .register)) 0 REGISTER))
+    (pick (settingsOk slotWidth (s .mask) (s .start) && registerOk slotWidth (s .register)) 0 REGISTER))
 
 -- ", 3": "After slot 120 the state is full"
 unfoldable pub stateNumber : FrameState → ℕ

@@ -2,7 +2,7 @@
 ghost use mathlib.Core.Path.{_≡_};
 ghost use Prim.Native.Nat.{_≤_};
 ghost use Rattle.plan.specs.Places.{placeOf};
-ghost use Rattle.plan.specs.States.{planIn, settingsOk, begun, zeros, movedOn, openNumber, opened, soundNumber, stateNumber, passNumber, passed};
+ghost use Rattle.plan.specs.States.{planIn, begun, zeros, movedOn, openNumber, opened, soundNumber, stateNumber, passNumber, passed};
 use crate::Answer;
 use crate::FrameState;
 use crate::Place;
@@ -13,15 +13,6 @@ use crate::places::place_of;
 // The slot register's width.
 const SLOT_WIDTH: u32 = 25;
 
-fn settings_ok(mask: u32, start: u32) -> bool
-    ensures { λ r. ⌜ r ≡ settingsOk mask start ⌝ }
-{
-    if dispersal::mask_ok(SLOT_WIDTH, mask) {
-        return dispersal::register_ok(SLOT_WIDTH, start);
-    }
-    false
-}
-
 fn open_number(plan: Plan, mask: u32, start: u32) -> u8
     ensures { λ r. ⌜ r ≡ openNumber plan mask start ⌝ }
 {
@@ -29,7 +20,7 @@ fn open_number(plan: Plan, mask: u32, start: u32) -> u8
     if number != 0 {
         return number;
     }
-    if settings_ok(mask, start) {
+    if dispersal::settings_ok(SLOT_WIDTH, mask, start) {
         return 0;
     }
     refusal::REGISTER
@@ -108,7 +99,7 @@ fn sound_number(state: FrameState) -> u8
     if number != 0 {
         return number;
     }
-    if settings_ok(state.mask, state.start) {
+    if dispersal::settings_ok(SLOT_WIDTH, state.mask, state.start) {
         if dispersal::register_ok(SLOT_WIDTH, state.register) {
             return 0;
         }

@@ -1,17 +1,19 @@
 -- Demand 3 for slots at one place (document 01, "What demand 3 compares"): one row count, one parity table, one mask
 -- and one register. When two slots and their symbols are equal, when their BCH bits and their parities are, and that three slots added
 -- are the slot of the added header and data.
-use mathlib.Core.Path.{_≡_, refl, sym, ap, ap₂, _∙_}
+use mathlib.Core.Path.{_≡_, sym, ap, ap₂, _∙_}
 use mathlib.Core.Bool.{true}
 use mathlib.Core.List.{List, _++_, append-assoc}
 use mathlib.Core.Logic.{_↔_}
 use Prim.Native.Nat.{ℕ, _+_, _*_, _%_, _<_}
+use native.Mathlib.Omega.{arith}
 use lib.ListN.{length}
 use Rattle.lists.specs.Runs.{Bits}
+use Rattle.lists.specs.RunLaws.{below-replicate}
 use Rattle.bits.specs.Octets.{bitsOf, octetsOf}
 use Rattle.bits.specs.OctetLaws.{bitsOf-bits, bits-octets}
-use Rattle.bits.specs.Sums.{added}
-use Rattle.bits.specs.SumLaws.{length-added, added-bits, added-assoc, added-append}
+use Rattle.bits.specs.Sums.{added, addedThree, addedOctets}
+use Rattle.bits.specs.SumLaws.{length-three, three-bits, three-append, three-same}
 use Rattle.dispersal.specs.Register.{after}
 use Rattle.dispersal.specs.Dispersal.{dispersed}
 use Rattle.dispersal.specs.DispersalLaws.{length-dispersed, dispersed-append, dispersed-one, dispersed-three}
@@ -28,7 +30,7 @@ use Rattle.symbols.specs.Labels.{labelsOfSlot}
 use Rattle.symbols.specs.CallLaws.{slots-equal as label-slots}
 use Rattle.slot.specs.Slots.{slotOctets, messageBits, sourceOctets, stuffBits, plain, sent, withParity, slotOf}
 use Rattle.slot.specs.SlotLaws.{Source, sizes, length-slotOf, slotOf-octets, length-message, length-plain, length-covered, slot-bits, slot-covered, slot-parity}
-use Rattle.slot.specs.ThreeRuns.{second-of-three}
+use Rattle.lists.specs.ThreeRuns.{second-of-three}
 use Rattle.slot.specs.Reading.{covered, parity, bchIn, sourceOf}
 use Rattle.slot.specs.RoundTrips.{coded-read}
 
@@ -98,25 +100,6 @@ module _ (R : ℕ) (t : List ℕ) (mask r : ℕ) (x y : List ℕ) (w : Rows R) (
       rw (slot-parity R t mask r x w (a .long), slot-parity R t mask r y w (b .long), slot-covered R t mask r x w (a .long), slot-covered R t mask r y w (b .long))
       (parityOf-equal R t (sent mask r (bitsOf x)) (sent mask r (bitsOf y)) (length-covered R t mask r x w (a .long) ∙ sym (length-covered R t mask r y w (b .long))))
 
--- three runs of bits "added modulo 2 at each bit"
-abbrev pub addedThree : List ℕ → List ℕ → List ℕ → List ℕ
-addedThree u v x = added (added u v) x
-
--- three runs of n octets, added modulo 2 at each bit
-unfoldable pub addedOctets : ℕ → List ℕ → List ℕ → List ℕ → List ℕ
-addedOctets n x y z = octetsOf n (addedThree (bitsOf x) (bitsOf y) (bitsOf z))
-
--- runs end to end
-three-append : (u u′ v v′ x x′ : List ℕ) → length u ≡ length v → length u ≡ length x
-    → addedThree (u ++ u′) (v ++ v′) (x ++ x′) ≡ addedThree u v x ++ addedThree u′ v′ x′
-three-append u u′ v v′ x x′ k l =
-    ap (λ (s : List ℕ). added s (x ++ x′)) (added-append u u′ v v′ k) ∙ added-append (added u v) (added u′ v′) x x′ (length-added u v ∙ l)
-
--- the ones stand three times, and so once
-three-stuff : addedThree stuffBits stuffBits stuffBits ≡ stuffBits
-unfolding added
-three-stuff = refl
-
 -- each stage of coding keeps sums of three
 module _ (u v x : List ℕ) (k : length u ≡ length v) (l : length u ≡ length x) where
   pub plain-three : Bits u → Bits v → Bits x → plain (addedThree u v x) ≡ addedThree (plain u) (plain v) (plain x)
@@ -124,16 +107,9 @@ module _ (u v x : List ℕ) (k : length u ≡ length v) (l : length u ≡ length
   plain-three p q z =
       let bk = length-bchBits u ∙ sym (length-bchBits v) in
       let bl = length-bchBits u ∙ sym (length-bchBits x) in
-      ap₂ (λ (s e : List ℕ). addedThree u v x ++ (s ++ e)) (bchBits-three u v x k l p q z) (sym three-stuff)
+      ap₂ (λ (s e : List ℕ). addedThree u v x ++ (s ++ e)) (bchBits-three u v x k l p q z) (sym (three-same stuffBits (below-replicate 1 6 1 (omega arith))))
       ∙ ap (λ (s : List ℕ). addedThree u v x ++ s) (sym (three-append (bchBits u) stuffBits (bchBits v) stuffBits (bchBits x) stuffBits bk bl))
       ∙ sym (three-append u (bchBits u ++ stuffBits) v (bchBits v ++ stuffBits) x (bchBits x ++ stuffBits) k l)
-
-  dispersed-sum : (mask r : ℕ) → dispersed slotWidth mask r (addedThree u v x) ≡ addedThree (dispersed slotWidth mask r u) (dispersed slotWidth mask r v) (dispersed slotWidth mask r x)
-  dispersed-sum mask r =
-      let long = length-dispersed slotWidth mask r in
-      ap (dispersed slotWidth mask r) (added-assoc u v x k)
-      ∙ sym (dispersed-three slotWidth mask r u v x k l)
-      ∙ sym (added-assoc (dispersed slotWidth mask r u) (dispersed slotWidth mask r v) (dispersed slotWidth mask r x) (long u ∙ k ∙ sym (long v)))
 
   pub withParity-three : (R : ℕ) (t : List ℕ) → withParity R t (addedThree u v x) ≡ addedThree (withParity R t u) (withParity R t v) (withParity R t x)
   unfolding withParity
@@ -146,7 +122,7 @@ unfolding sent
 sent-three mask r u v x k l p q z =
     let pk : length (plain u) ≡ length (plain v) = length-plain u ∙ ap (λ (n : ℕ). n + 198) k ∙ sym (length-plain v) in
     let pl : length (plain u) ≡ length (plain x) = length-plain u ∙ ap (λ (n : ℕ). n + 198) l ∙ sym (length-plain x) in
-    ap (dispersed slotWidth mask r) (plain-three u v x k l p q z) ∙ dispersed-sum (plain u) (plain v) (plain x) pk pl mask r
+    ap (dispersed slotWidth mask r) (plain-three u v x k l p q z) ∙ dispersed-three slotWidth mask r (plain u) (plain v) (plain x) pk pl
 
 -- three slots added are the slot of the added header and data
 pub slots-three : (R : ℕ) (t : List ℕ) (mask r : ℕ) (x y z : List ℕ) → Rows R → Source R x → Source R y → Source R z
@@ -159,8 +135,8 @@ slots-three R t mask r x y z w a b c =
     let m = length-message R x w (a .long) in
     let k : length u ≡ length v = m ∙ sym (length-message R y w (b .long)) in
     let l : length u ≡ length q = m ∙ sym (length-message R z w (c .long)) in
-    let long : length (addedThree u v q) ≡ 8 * sourceOctets R = length-added (added u v) q ∙ length-added u v ∙ m ∙ sizes R w .source in
-    let back : bitsOf (octetsOf (sourceOctets R) (addedThree u v q)) ≡ addedThree u v q = bits-octets (sourceOctets R) (addedThree u v q) long (added-bits (added u v) q) in
+    let long : length (addedThree u v q) ≡ 8 * sourceOctets R = length-three u v q ∙ m ∙ sizes R w .source in
+    let back : bitsOf (octetsOf (sourceOctets R) (addedThree u v q)) ≡ addedThree u v q = bits-octets (sourceOctets R) (addedThree u v q) long (three-bits u v q) in
     let su = length-covered R t mask r x w (a .long) in
     let sk = su ∙ sym (length-covered R t mask r y w (b .long)) in
     let sl = su ∙ sym (length-covered R t mask r z w (c .long)) in

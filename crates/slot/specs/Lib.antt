@@ -1,6 +1,5 @@
 pub mod Slots
 pub mod SlotLaws
-pub mod ThreeRuns
 pub mod Reading
 pub mod ReadingLaws
 pub mod Calls

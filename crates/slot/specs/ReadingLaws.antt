@@ -19,7 +19,7 @@ use Rattle.bits.specs.Digits.{digits, number}
 use Rattle.bits.specs.DigitLaws.{digits-number}
 use Rattle.bits.specs.Octets.{bitsOf}
 use Rattle.bits.specs.OctetLaws.{length-bitsOf, bitsOf-bits, length-octetsOf, octetsOf-octets, bits-octets}
-use Rattle.bits.specs.Same.{same-is, same-true}
+use Rattle.bits.specs.SameLaws.{same-is, same-true}
 use Rattle.dispersal.specs.DispersalLaws.{length-dispersed, dispersed-bits}
 use Rattle.bch.specs.Bch.{bchBits}
 use Rattle.ldpc.specs.Tables.{positions}

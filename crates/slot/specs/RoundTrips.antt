@@ -19,7 +19,7 @@ use Rattle.lists.specs.Count.{every}
 use Rattle.refusal.specs.Numbers.{PLAN, DUMMY, FULL, LENGTH, TABLE, REGISTER, PARITY}
 use Rattle.bits.specs.Octets.{bitsOf}
 use Rattle.bits.specs.OctetLaws.{bitsOf-bits, octets-bits}
-use Rattle.dispersal.specs.Register.{registerOk}
+use Rattle.dispersal.specs.Register.{registerOk, settingsOk}
 use Rattle.dispersal.specs.RegisterLaws.{after-ok}
 use Rattle.dispersal.specs.Dispersal.{dispersed}
 use Rattle.dispersal.specs.DispersalLaws.{dispersed-twice}
@@ -33,11 +33,11 @@ use Rattle.plan.specs.declared.FrameState.{FrameState}
 use Rattle.plan.specs.declared.Answer.{Answer}
 use Rattle.plan.specs.Plans.{groupsOk, valuesOk, fallsAfter, slotsBefore, planNumber}
 use Rattle.plan.specs.Places.{carries}
-use Rattle.plan.specs.States.{slotWidth, planIn, settingsOk, soundNumber, stateNumber}
+use Rattle.plan.specs.States.{slotWidth, planIn, soundNumber, stateNumber}
 use Rattle.plan.specs.StateLaws.{sound-yes, moved-sound}
 use Rattle.slot.specs.Slots.{slotOctets, messageBits, sourceOctets, coveredBits, stuffBits, plain, sent, withParity, slotOf, registerAfter}
 use Rattle.slot.specs.SlotLaws.{Source, plain-bits, length-message, slot-covered, slot-parity, length-slotOf, slotOf-octets}
-use Rattle.slot.specs.ThreeRuns.{first-of-three, second-of-three, third-of-three, three-whole}
+use Rattle.lists.specs.ThreeRuns.{first-of-three, second-of-three, third-of-three, three-whole}
 use Rattle.slot.specs.Reading.{covered, parity, takenOff, messageIn, bchIn, stuffIn, receivedNumber, sourceOf}
 use Rattle.slot.specs.ReadingLaws.{Received, Good, MovesOn, received-numbers, received-good, covered-bits, sourceOf-source, sourceOf-bits}
 use Rattle.slot.specs.Calls.{rowsAt, dataNumber, lentNumber, slotNumber, nextState, codeAnswer, codeArea, readNumber, readAnswer, readArea}
@@ -154,7 +154,7 @@ state-earlier s =
     earlier-then
     (earlier-then (earlier-pick (eqb (s .slot) 0) (earlier PLAN (omega arith)) (earlier 0 (omega arith)))
     (earlier-then (plan-earlier (planIn s))
-    (earlier-test (settingsOk (s .mask) (s .start) && registerOk slotWidth (s .register)) REGISTER (omega arith))))
+    (earlier-test (settingsOk slotWidth (s .mask) (s .start) && registerOk slotWidth (s .register)) REGISTER (omega arith))))
     (earlier-test (leb (s .slot) 120) FULL (omega arith))
 
 slot-earlier : (s : FrameState) (t source coded : List ℕ) → Earlier (slotNumber s t source coded)

@@ -7,7 +7,7 @@ use lib.ListN.{length, take}
 use lib.Seq.{length-take-le, take-at}
 use borrow.Rule.Slice.PartMut.{putMid}
 use Rattle.lists.specs.Parts.{part}
-use Rattle.lists.specs.PartLaws.{part-rest, length-part}
+use Rattle.lists.specs.PartLaws.{take-lent, part-rest, length-part}
 use Rattle.bits.specs.Digits.{number}
 use Rattle.bits.specs.Octets.{bitsOf}
 use Rattle.bits.specs.Same.{same}
@@ -22,10 +22,6 @@ use Rattle.slot.specs.Slots.{messageBits, coveredBits, registerAfter}
 use Rattle.slot.specs.SlotLaws.{sizes}
 use Rattle.slot.specs.Reading.{takenOff, bchRight, stuffIn}
 use Rattle.slot_reader.specs.Stages.{wrongPosition}
-
--- the part from the start
-pub take-lent : (n m : ℕ) (u : List ℕ) → n ≡ m → take (n - 0) u ≡ take m u
-take-lent n m u e = let z : n - 0 ≡ m = omega arith in rw z
 
 -- the bits before the parity, and the parity
 pub position-is : (R : ℕ) (t u : List ℕ) (n : ℕ) → n ≡ coveredBits R → lowestWrong R t (take (n - 0) u) (part n (length u) u) ≡ wrongPosition R t u

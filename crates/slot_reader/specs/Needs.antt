@@ -42,8 +42,3 @@ pub record Plain (R : ℕ) (run : List ℕ) : Type 0 where
 pub record Taken (R : ℕ) (plain source : List ℕ) : Type 0 where
   pub run : Plain R plain
   pub long : length source ≡ sourceOctets R
-
--- a message, and received BCH bits
-pub record BchRun (message received : List ℕ) : Type 0 where
-  pub bits : Bits message
-  pub long : length received ≡ 192

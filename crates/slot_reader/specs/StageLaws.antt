@@ -4,12 +4,11 @@ use mathlib.Core.Bool.{true}
 use mathlib.Core.Logic.{_↔_}
 use mathlib.Core.List.{List}
 use Prim.Native.Nat.{ℕ, _≤_}
-use native.Mathlib.Decide.{ℕ-discrete}
 use lib.Dec.{eqb}
 use lib.ListN.{length}
-use borrow.Author.Tests.{eq-eqb, ne-eqb, eqb-true}
+use borrow.Author.Tests.{eq-eqb, eqb-true}
 use Rattle.lists.specs.Choice.{pick, andThen}
-use Rattle.lists.specs.ChoiceLaws.{pick-yes, then-zero, then-both}
+use Rattle.lists.specs.ChoiceLaws.{pick-yes, then-zero, then-both, then-assoc}
 use Rattle.refusal.specs.Numbers.{PLAN, LENGTH, TABLE, PARITY}
 use Rattle.bits.specs.Octets.{bitsOf}
 use Rattle.ldpc.specs.Tables.{positions, tableOk}
@@ -46,14 +45,6 @@ numberOf-zero R w u = (
 pub numberOf-is : (R : ℕ) (t : List ℕ) (mask r : ℕ) (c : List ℕ) → numberOf R (wrongPosition R t (bitsOf c)) (takenOff R mask r c) ≡ receivedNumber R t mask r c
 unfolding numberOf receivedNumber
 numberOf-is R t mask r c = ap (λ (n : ℕ). andThen n (plainNumber R (takenOff R mask r c))) (wrongNumber-is R t c)
-
--- numbers in their order, however they are grouped
-pub then-assoc : (a b d : ℕ) → andThen (andThen a b) d ≡ andThen a (andThen b d)
-then-assoc a b d = go (ℕ-discrete a 0)
-  where
-    go : Dec (a ≡ 0) → andThen (andThen a b) d ≡ andThen a (andThen b d)
-    go (yes e) = rw (eq-eqb a 0 e)
-    go (no n) = rw (ne-eqb a 0 n, ne-eqb a 0 n)
 
 pub checkNumber-is : (rate : ℕ) (t c : List ℕ) → checkNumber rate t c ≡ andThen (formNumber rate t c) (pick (parityRight (rowsOf rate) t c) 0 PARITY)
 unfolding checkNumber formNumber

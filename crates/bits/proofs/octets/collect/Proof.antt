@@ -5,7 +5,8 @@ use Prim.Native.Nat.{ℕ, _+_, _*_, _-_}
 use native.Mathlib.Omega.{arith}
 use lib.ListN.{length}
 use borrow.Author.Needs.{needs}
-use Rattle.lists.specs.Filling.{Filling, filling-none, filling-more, filling-all}
+use Rattle.lists.specs.Filling.{Filling}
+use Rattle.lists.specs.FillingLaws.{filling-none, filling-more, filling-all}
 use Rattle.lists.specs.RunLaws.{below-part}
 use Rattle.bits.specs.Octets.{octetsOf}
 use Rattle.bits.specs.OctetLaws.{length-octetsOf}

@@ -6,7 +6,8 @@ use Prim.Native.Nat.{ℕ, _+_, _-_, _%_, _^_, _<_}
 use native.Mathlib.Omega.{arith}
 use lib.ListN.{length}
 use borrow.Author.Needs.{needs}
-use Rattle.lists.specs.Filling.{Filling, filling-none, filling-here, filling-more, filling-all}
+use Rattle.lists.specs.Filling.{Filling}
+use Rattle.lists.specs.FillingLaws.{filling-none, filling-here, filling-more, filling-all}
 use Rattle.dispersal.specs.Register.{step, after, top}
 use Rattle.dispersal.specs.RegisterLaws.{after-none, after-more, step-lt, top-lt}
 use Rattle.dispersal.specs.Dispersal.{dispersed}

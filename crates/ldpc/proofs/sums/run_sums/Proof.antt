@@ -7,7 +7,8 @@ use lib.ListN.{length, getD}
 use borrow.Author.Needs.{needs}
 use Rattle.lists.specs.Count.{sum, table}
 use Rattle.lists.specs.CountLaws.{sum-none, length-table, getD-table}
-use Rattle.lists.specs.Filling.{Filling, filling-none, filling-here, filling-more, filling-all}
+use Rattle.lists.specs.Filling.{Filling}
+use Rattle.lists.specs.FillingLaws.{filling-none, filling-here, filling-more, filling-all}
 use Rattle.ldpc.specs.Parity.{running}
 use Rattle.ldpc.specs.ParityLaws.{running-sum}
 use Rattle.ldpc.proofs.Adding.{carry-more}

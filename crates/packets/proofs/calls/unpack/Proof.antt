@@ -2,7 +2,7 @@
 use mathlib.Core.Path.{sym, ap, _∙_}
 use Prim.Native.Nat.{ℕ, _*_}
 use borrow.Author.Needs.{needs}
-use Rattle.refusal.specs.Answers.{refused, accepted}
+use Rattle.refusal.specs.AnswerLaws.{refused, accepted}
 use Rattle.packets.specs.Packets.{unpacked, unpackNumber}
 use Rattle.packets.specs.PacketLaws.{sized}
 use Rattle.packets.proofs.calls.unpack.Statement.{statement}

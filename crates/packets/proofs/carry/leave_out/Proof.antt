@@ -4,7 +4,8 @@ use mathlib.Core.List.{List}
 use Prim.Native.Nat.{ℕ, _+_, _*_, _-_, _≤_}
 use native.Mathlib.Omega.{arith}
 use borrow.Author.Needs.{needs}
-use Rattle.lists.specs.Filling.{Filling, filling-none, filling-part, filling-all}
+use Rattle.lists.specs.Filling.{Filling}
+use Rattle.lists.specs.FillingLaws.{filling-none, filling-part, filling-all}
 use Rattle.packets.specs.Packets.{packed}
 use Rattle.packets.specs.PacketLaws.{length-packed}
 use Rattle.packets.proofs.Turns.{leave-turn}

@@ -5,7 +5,8 @@ use Prim.Native.Nat.{ℕ, _+_, _*_, _-_, _≤_}
 use native.Mathlib.Omega.{arith}
 use lib.ListN.{getD, length-set}
 use borrow.Author.Needs.{needs}
-use Rattle.lists.specs.Filling.{Filling, filling-none, filling-more, filling-part, filling-all}
+use Rattle.lists.specs.Filling.{Filling}
+use Rattle.lists.specs.FillingLaws.{filling-none, filling-more, filling-part, filling-all}
 use Rattle.packets.specs.Packets.{unpacked}
 use Rattle.packets.specs.PacketLaws.{length-unpacked, unpacked-first}
 use Rattle.packets.proofs.Turns.{back-turn}

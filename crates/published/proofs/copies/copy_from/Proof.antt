@@ -6,7 +6,7 @@ use borrow.Author.Needs.{needs}
 use Rattle.lists.specs.CountLaws.{joinedAt}
 use Rattle.published.specs.Published.{tableAt, tableOf}
 use Rattle.published.specs.PublishedLaws.{known-yes, known-low, known-high, number-unknown, number-long, number-good}
-use Rattle.refusal.specs.Answers.{refused, accepted}
+use Rattle.refusal.specs.AnswerLaws.{refused, accepted}
 use Rattle.published.proofs.Starts.{Placed, placed}
 use Rattle.published.proofs.copies.copy_from.Statement.{statement}
 use Rattle.published.proofs.copies.copy_from.Tie as tie

@@ -15,8 +15,8 @@ use Rattle.slot_reader.proofs.Parts.{bch-is, stuff-is}
 use Rattle.slot_reader.proofs.plain.plain_number.Statement.{statement}
 use Rattle.slot_reader.proofs.plain.plain_number.Tie as tie
 
-bch-right-requires : tie.Need-bch-right-requires
-bch-right-requires c κs =
+right-requires : tie.Need-right-requires
+right-requires c κs =
     let k = c .before .before in
     let s = k .before .before in
     let u = s .args .plain .now in
@@ -40,11 +40,11 @@ gather-requires c κs =
     }
 
 -- what the test of the BCH bits says
-bch-tested : (c : tie.After-bch-right) → let a = c .before .before .before .before .before .args in c .bch-right .result ≡ bchRight (a .rows) (a .plain .now)
+bch-tested : (c : tie.After-right) → let a = c .before .before .before .before .before .args in c .right .result ≡ bchRight (a .rows) (a .plain .now)
 bch-tested c =
     let k = c .before .before .before in
     let s = k .before .before in
-    c .bch-right .ensures ∙ bch-is (s .args .rows) (s .args .plain .now) _ (k .message-bits .ensures)
+    c .right .ensures ∙ bch-is (s .args .rows) (s .args .plain .now) _ (k .message-bits .ensures)
 
 -- the stuff bits as a number
 stuff-tested : (c : tie.After-gather) → let a = c .before .before .before .before .before .before .before .before .args in c .gather .result ≡ number 6 (stuffIn (a .rows) (a .plain .now))
@@ -81,7 +81,7 @@ plain-number-spec =
     (λ c. search needs)
     (λ c. search needs)
     (λ c. let z = sizes _ (c .before .before .before .pre .rate) in search needs)
-    bch-right-requires
+    right-requires
     (λ c. let z = sizes _ (c .before .before .before .before .before .before .pre .rate) in search needs)
     (λ c. let z = sizes _ (c .before .before .before .before .before .before .pre .rate) in search needs)
     (λ c. search needs)

@@ -10,7 +10,7 @@ use Rattle.slot.specs.Reading.{takenOff, sourceOf}
 use Rattle.slot.specs.ReadingLaws.{takenOff-bits}
 use Rattle.slot_reader.specs.Stages.{numberOf}
 use Rattle.slot_reader.specs.StageLaws.{numberOf-is}
-use Rattle.slot_reader.proofs.Parts.{take-lent}
+use Rattle.lists.specs.PartLaws.{take-lent}
 use Rattle.slot_reader.proofs.received.read.Statement.{statement}
 use Rattle.slot_reader.proofs.received.read.Tie as tie
 

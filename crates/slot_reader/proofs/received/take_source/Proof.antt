@@ -9,7 +9,7 @@ use Rattle.lists.specs.RunLaws.{below-take}
 use Rattle.bits.specs.Octets.{octetsOf}
 use Rattle.slot.specs.Slots.{messageBits}
 use Rattle.slot.specs.SlotLaws.{sizes}
-use Rattle.slot_reader.proofs.Parts.{take-lent}
+use Rattle.lists.specs.PartLaws.{take-lent}
 use Rattle.slot_reader.proofs.received.take_source.Statement.{statement}
 use Rattle.slot_reader.proofs.received.take_source.Tie as tie
 

@@ -3,7 +3,7 @@ use mathlib.Core.Path.{refl, sym, _∙_}
 use Prim.Native.Nat.{ℕ}
 use lib.ListN.{length, replicate, length-replicate}
 use borrow.Author.Needs.{needs}
-use Rattle.refusal.specs.Answers.{refused, accepted}
+use Rattle.refusal.specs.AnswerLaws.{refused, accepted}
 use Rattle.symbols.specs.CallLaws.{Lengths, block-ready}
 use Rattle.symbols.specs.Labels.{blockOctets, blockLabels}
 use Rattle.symbols.proofs.Ready.{block-areas, labels-left}

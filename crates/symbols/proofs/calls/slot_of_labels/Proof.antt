@@ -3,7 +3,7 @@ use mathlib.Core.Path.{sym, _∙_}
 use Prim.Native.Nat.{ℕ}
 use lib.ListN.{length, replicate, length-replicate}
 use borrow.Author.Needs.{needs}
-use Rattle.refusal.specs.Answers.{refused, accepted}
+use Rattle.refusal.specs.AnswerLaws.{refused, accepted}
 use Rattle.symbols.specs.CallLaws.{SlotReady, slot-labels-ready}
 use Rattle.symbols.proofs.Ready.{slot-areas, octets-left}
 use Rattle.symbols.proofs.calls.slot_of_labels.Statement.{statement}

@@ -7,7 +7,8 @@ use native.Mathlib.Omega.{arith}
 use lib.ListN.{length, getD}
 use borrow.Author.Needs.{needs}
 use Rattle.lists.specs.CountLaws.{length-table, getD-table}
-use Rattle.lists.specs.Filling.{Filling, filling-none, filling-here, filling-more, filling-all}
+use Rattle.lists.specs.Filling.{Filling}
+use Rattle.lists.specs.FillingLaws.{filling-none, filling-here, filling-more, filling-all}
 use Rattle.symbols.specs.Needs.{grown}
 use Rattle.symbols.proofs.Strides.{next-step}
 use Rattle.symbols.proofs.places.take_place.Statement.{statement}

@@ -1,0 +1,77 @@
+-- Laws of the calls: all that a number 0 lets the work on a block assume.
+use mathlib.Core.Path.{_≡_, refl, sym, ap, _∙_}
+use mathlib.Core.Bool.{true, _&&_}
+use mathlib.Core.List.{List}
+use mathlib.Core.Logic.{_↔_}
+use Prim.Native.Nat.{ℕ}
+use native.Mathlib.Omega.{arith}
+use borrow.Author.Tests.{eqb-true, eq-eqb}
+use lib.Dec.{eqb}
+use lib.ListN.{length, drop, replicate, length-drop}
+use lib.Seq.{take-all}
+use Rattle.lists.specs.Choice.{pick}
+use Rattle.lists.specs.ChoiceLaws.{then-zero, pick-yes, and-left, and-right}
+use Rattle.lists.specs.RunLaws.{below-drop}
+use Rattle.bits.specs.Digits.{digits, number}
+use Rattle.bits.specs.DigitLaws.{digits-number}
+use Rattle.bits.specs.Octets.{bitsOf}
+use Rattle.bits.specs.OctetLaws.{length-bitsOf, bitsOf-bits}
+use Rattle.dispersal.specs.Register.{maskOk, registerOk, settingsOk}
+use Rattle.ldpc.specs.Tables.{tableOk}
+use Rattle.tmcc.specs.Blocks.{blockWidth, blockRows, sourceOctets, messageBits, blockOctets}
+use Rattle.tmcc.specs.Calls.{lentNumber, tailOk, codeNumber}
+
+-- accepted settings and table, and areas of the right lengths
+pub record Lent (mask start : ℕ) (t source block : List ℕ) : Type 0 where
+  pub mask-ok : maskOk blockWidth mask ≡ true
+  pub start-ok : registerOk blockWidth start ≡ true
+  pub source-long : length source ≡ sourceOctets
+  pub block-long : length block ≡ blockOctets
+  pub table : tableOk blockRows t ≡ true
+
+pub lent : (mask start : ℕ) (t source block : List ℕ) → lentNumber mask start t source block ≡ 0 → Lent mask start t source block
+unfolding lentNumber
+lent mask start t source block h =
+    let a = then-zero (pick (settingsOk blockWidth mask start) 0 6) _ h in
+    let s = pick-yes (settingsOk blockWidth mask start) 0 5 (a .0) .0 in
+    let b = then-zero (pick (eqb (length source) sourceOctets && eqb (length block) blockOctets) 0 4) _ (a .1) in
+    let l = pick-yes (eqb (length source) sourceOctets && eqb (length block) blockOctets) 0 3 (b .0) .0 in
+    record {
+      mask-ok = and-left (maskOk blockWidth mask) _ s;
+      start-ok = and-right (maskOk blockWidth mask) _ s;
+      source-long = eqb-true (length source) sourceOctets (and-left (eqb (length source) sourceOctets) _ l);
+      block-long = eqb-true (length block) blockOctets (and-right (eqb (length source) sourceOctets) _ l);
+      table = pick-yes (tableOk blockRows t) 0 4 (b .1) .0;
+    }
+
+-- two zeros are the number 0
+zeros-number : number 2 (replicate 2 0) ≡ 0
+unfolding number
+zeros-number = refl
+
+zeros-digits : digits 2 0 ≡ replicate 2 0
+unfolding digits
+zeros-digits = refl
+
+-- 11: the last two bits are zeros
+pub tail-right : (source : List ℕ) → length source ≡ sourceOctets → (tailOk source ≡ true) ↔ (drop messageBits (bitsOf source) ≡ replicate 2 0)
+unfolding tailOk
+tail-right source l =
+    let u = drop messageBits (bitsOf source) in
+    let two : length u ≡ 2 = length-drop messageBits (bitsOf source) ∙ omega (arith, length-bitsOf source) in
+    let all = take-all 2 u (omega arith) in
+    let back = digits-number 2 u (omega arith) (below-drop 1 messageBits (bitsOf source) (bitsOf-bits source)) in (
+      (λ e. sym all ∙ sym back ∙ ap (digits 2) (eqb-true (number 2 u) 0 e) ∙ zeros-digits),
+      (λ e. eq-eqb (number 2 u) 0 (ap (number 2) e ∙ zeros-number)),
+    )
+
+-- all that coding a block may assume
+pub record Codable (mask start : ℕ) (t source block : List ℕ) : Type 0 where
+  pub lent : Lent mask start t source block
+  pub tail : tailOk source ≡ true
+
+pub codable : (mask start : ℕ) (t source block : List ℕ) → codeNumber mask start t source block ≡ 0 → Codable mask start t source block
+unfolding codeNumber
+codable mask start t source block h =
+    let a = then-zero (lentNumber mask start t source block) _ h in
+    record { lent = lent mask start t source block (a .0); tail = pick-yes (tailOk source) 0 10 (a .1) .0 }

@@ -1,0 +1,33 @@
+-- The calls on a TMCC block (document 01, "Refusal list"): "TMCC: 6, 4, 5, then 11, or 8, 9".
+use mathlib.Core.Bool.{Bool, _&&_}
+use mathlib.Core.List.{List}
+use Prim.Native.Nat.{ℕ}
+use lib.Dec.{eqb}
+use lib.ListN.{length, drop}
+use Rattle.lists.specs.Choice.{pick, andThen}
+use Rattle.refusal.specs.Numbers.{LENGTH, TABLE, REGISTER, TAIL}
+use Rattle.bits.specs.Digits.{number}
+use Rattle.bits.specs.Octets.{bitsOf}
+use Rattle.dispersal.specs.Register.{settingsOk}
+use Rattle.ldpc.specs.Tables.{tableOk}
+use Rattle.tmcc.specs.Blocks.{blockWidth, blockRows, sourceOctets, messageBits, blockOctets}
+use Rattle.tmcc.specs.Reading.{receivedNumber}
+
+-- "6, 4, 5": the settings, the 1,178 and the 3,960 octets, and the parity table
+unfoldable pub lentNumber : ℕ → ℕ → List ℕ → List ℕ → List ℕ → ℕ
+lentNumber mask start t source block =
+    andThen (pick (settingsOk blockWidth mask start) 0 REGISTER)
+    (andThen (pick (eqb (length source) sourceOctets && eqb (length block) blockOctets) 0 LENGTH)
+    (pick (tableOk blockRows t) 0 TABLE))
+
+-- 11: "one of the last two TMCC bits is 1", the two as a number
+unfoldable pub tailOk : List ℕ → Bool
+tailOk source = eqb (number 2 (drop messageBits (bitsOf source))) 0
+
+-- "then 11"
+unfoldable pub codeNumber : ℕ → ℕ → List ℕ → List ℕ → List ℕ → ℕ
+codeNumber mask start t source block = andThen (lentNumber mask start t source block) (pick (tailOk source) 0 TAIL)
+
+-- "or 8, 9"
+unfoldable pub readNumber : ℕ → ℕ → List ℕ → List ℕ → List ℕ → ℕ
+readNumber mask start t block source = andThen (lentNumber mask start t source block) (receivedNumber t mask start block)

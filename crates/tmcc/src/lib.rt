@@ -1,0 +1,1 @@
+// TMCC blocks: coded and read.
