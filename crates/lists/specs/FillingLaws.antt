@@ -24,6 +24,10 @@ module _ (goal found : List ℕ) (i : ℕ) (area : List ℕ) (f : Filling goal f
   front : length (take i goal) ≡ i
   front = length-take-le i goal (omega (arith, f .long, f .within))
 
+  -- what is not reached yet
+  pub filling-rest : drop i area ≡ drop i found
+  filling-rest = ap (drop i) (f .done) ∙ drop-at (take i goal) (drop i found) i front
+
   -- an element that is not reached yet
   pub filling-ahead : (k : ℕ) → getD area (i + k) 0 ≡ getD found (i + k) 0
   filling-ahead k =
@@ -48,11 +52,10 @@ module _ (goal found : List ℕ) (i : ℕ) (area : List ℕ) (f : Filling goal f
   filling-part e ys h k d =
       let n : i + (e - i) ≡ e = omega arith in
       let a : take i area ≡ take i goal = ap (take i) (f .done) ∙ take-at (take i goal) (drop i found) i front in
-      let b : drop i area ≡ drop i found = ap (drop i) (f .done) ∙ drop-at (take i goal) (drop i found) i front in
       let s : take e goal ≡ take i goal ++ part i e goal = ap (λ (m : ℕ). take m goal) (sym n) ∙ take-add i (e - i) goal in
       let t : drop (e - i) (drop i found) ≡ drop e found = drop-drop (e - i) i found ∙ ap (λ (m : ℕ). drop m found) n in
       filled goal found e (putMid i (e - i) area ys) (f .long) k
-      (rw (a, b, t, s, d) (sym (append-assoc (take i goal) (part i e goal) (drop e found))))
+      (rw (a, filling-rest, t, s, d) (sym (append-assoc (take i goal) (part i e goal) (drop e found))))
 
   pub filling-all : length found ≤ i → area ≡ goal
   filling-all h =

@@ -3,7 +3,7 @@ use mathlib.Core.Path.{_≡_, refl}
 use mathlib.Core.Bool.{true, false, _&&_}
 use Prim.Native.Nat.{ℕ, zero, suc, _≤_}
 use native.Mathlib.Omega.{arith}
-use borrow.Author.Tests.{leb-true, eqb-false, eq-eqb, ne-eqb}
+use borrow.Author.Tests.{le-leb, leb-true, eqb-false, eq-eqb, ne-eqb}
 use lib.Dec.{eqb, leb}
 use Rattle.lists.specs.Choice.{pick}
 use Rattle.lists.specs.ChoiceLaws.{and-left, and-right, then-zero, then-next, pick-yes, pick-no}
@@ -58,6 +58,10 @@ ready s h =
     let a = then-zero (soundNumber s) _ h in
     record { sound = sound s (a .0); left = leb-true (s .slot) 120 (pick-yes (leb (s .slot) 120) 0 2 (a .1) .0) }
 
+pub ready-yes : (s : FrameState) → Ready s → stateNumber s ≡ 0
+unfolding stateNumber
+ready-yes s r = rw (sound-yes s (r .sound), le-leb (s .slot) 120 (r .left))
+
 -- a sound state is refused for nothing but being full
 pub sound-next : (s : FrameState) → soundNumber s ≡ 0 → stateNumber s ≡ pick (leb (s .slot) 120) 0 FULL
 unfolding stateNumber
@@ -69,6 +73,11 @@ unfolding passNumber
 pass-ready s h =
     let a = then-zero (stateNumber s) _ h in
     (ready s (a .0), pick-no (carries (planIn s) (s .slot)) 1 0 (a .1) .0)
+
+-- such a pass has number 0
+pub pass-yes : (s : FrameState) → Ready s → carries (planIn s) (s .slot) ≡ false → passNumber s ≡ 0
+unfolding passNumber
+pass-yes s r c = rw (ready-yes s r, c)
 
 -- what an opening with number 0 had
 pub open-sound : (p : Plan) (mask start : ℕ) → openNumber p mask start ≡ 0 → Sound (begun p mask start)

@@ -1,13 +1,13 @@
--- Laws of the slot calls' numbers: what a number 0 says.
+-- Laws of the slot calls' numbers: what a number 0 says, and when a number is 0.
 use mathlib.Core.Path.{_≡_}
 use mathlib.Core.Bool.{true, _&&_}
 use mathlib.Core.List.{List}
 use Prim.Native.Nat.{ℕ}
-use borrow.Author.Tests.{eqb-true}
+use borrow.Author.Tests.{eqb-true, eq-eqb}
 use lib.Dec.{eqb}
 use lib.ListN.{length}
 use Rattle.lists.specs.Choice.{pick}
-use Rattle.lists.specs.ChoiceLaws.{and-left, and-right, then-zero, pick-yes}
+use Rattle.lists.specs.ChoiceLaws.{and-left, and-right, then-zero, then-both, pick-yes}
 use Rattle.ldpc.specs.Tables.{tableOk}
 use Rattle.plan.specs.declared.FrameState.{FrameState}
 use Rattle.plan.specs.RateLaws.{Rows, rate-rows}
@@ -16,7 +16,7 @@ use Rattle.plan.specs.PlanLaws.{accepted, group-values}
 use Rattle.plan.specs.Places.{groupAt, carries}
 use Rattle.plan.specs.PlaceLaws.{group-holds}
 use Rattle.plan.specs.States.{planIn, stateNumber}
-use Rattle.plan.specs.StateLaws.{Ready, ready}
+use Rattle.plan.specs.StateLaws.{Ready, ready, ready-yes}
 use Rattle.slot.specs.Slots.{slotOctets, sourceOctets}
 use Rattle.slot.specs.Calls.{rowsAt, dataNumber, lentNumber, slotNumber}
 
@@ -41,6 +41,10 @@ at-data s h =
     let a = then-zero (stateNumber s) _ h in
     let r = ready s (a .0) in
     record { ready = r; carries = pick-yes (carries (planIn s) (s .slot)) 0 1 (a .1) .0; rows = rows-known s r }
+
+pub data-yes : (s : FrameState) → Ready s → carries (planIn s) (s .slot) ≡ true → dataNumber s ≡ 0
+unfolding dataNumber
+data-yes s r c = rw (ready-yes s r, c)
 
 -- areas of the right lengths, and an accepted table
 pub record Lent (R : ℕ) (t source coded : List ℕ) : Type 0 where
@@ -69,3 +73,11 @@ unfolding slotNumber
 accepted-slot s t source coded h =
     let a = then-zero (dataNumber s) _ h in
     record { place = at-data s (a .0); areas = lent (rowsAt s) t source coded (a .1) }
+
+-- a call that has all of it has number 0
+pub slot-yes : (s : FrameState) (t source coded : List ℕ) → Accepted-slot s t source coded → slotNumber s t source coded ≡ 0
+unfolding slotNumber lentNumber
+slot-yes s t source coded a =
+    let r = rowsAt s in
+    then-both (dataNumber s) _ (data-yes s (a .place .ready) (a .place .carries))
+    (rw (eq-eqb (length source) (sourceOctets r) (a .areas .source-long), eq-eqb (length coded) slotOctets (a .areas .coded-long), a .areas .table))

@@ -6,3 +6,4 @@ pub use calls::rows_at;
 pub use calls::slot_number;
 pub use sizes::covered_bits;
 pub use sizes::message_bits;
+pub use sizes::source_octets;

@@ -1,0 +1,82 @@
+-- A whole frame, coded and read (document 01, "Plan and place" and "Refusal list"): the plan p, the settings, the groups'
+-- tables ts. Slots are counted from 0 here: slot k + 1 stands behind k others.
+use mathlib.Core.Bool.{_&&_}
+use mathlib.Core.List.{List}
+use Prim.Native.Nat.{ℕ, zero, suc, _+_, _*_}
+use lib.Dec.{eqb}
+use lib.ListN.{length}
+use Rattle.lists.specs.Choice.{pick, andThen}
+use Rattle.lists.specs.Count.{sum, table, joined}
+use Rattle.lists.specs.Parts.{part}
+use Rattle.refusal.specs.Numbers.{LENGTH, TABLE}
+use Rattle.plan.specs.declared.Plan.{Plan}
+use Rattle.plan.specs.declared.FrameState.{FrameState}
+use Rattle.plan.specs.Rates.{rowsOf}
+use Rattle.plan.specs.Plans.{rateOf}
+use Rattle.plan.specs.Places.{groupAt, carries}
+use Rattle.plan.specs.States.{openNumber}
+use Rattle.slot.specs.Slots.{slotOctets, sourceOctets, registerAfter}
+use Rattle.frame.specs.Tables.{tablesOk}
+use Rattle.frame.specs.Steps.{codedAt, answerAt, readAt}
+
+-- "one lent area of 673,200 octets"
+abbrev pub frameOctets : ℕ
+frameOctets = 673200
+
+-- the rows of slot s's parity table
+abbrev pub rowsOfSlot : Plan → ℕ → ℕ
+rowsOfSlot p s = rowsOf (rateOf p (groupAt p s))
+
+-- the register before slot k + 1: each data slot before it stepped it, and it "stands still over parity and dummies"
+unfoldable pub registerBefore : Plan → ℕ → ℕ → ℕ → ℕ
+registerBefore p mask start zero = start
+registerBefore p mask start (suc k) =
+    pick (carries p (k + 1)) (registerAfter (rowsOfSlot p (k + 1)) mask (registerBefore p mask start k)) (registerBefore p mask start k)
+
+-- the state before slot k + 1: "It starts from plan and settings at slot 1"
+abbrev pub stateBefore : Plan → ℕ → ℕ → ℕ → FrameState
+stateBefore p mask start k =
+    record { count = p .count; modulation = p .modulation; rate = p .rate; slots = p .slots; mask = mask; start = start; slot = k + 1; register = registerBefore p mask start k }
+
+-- "slot s in its own part starting at octet 5,610 × (s − 1)"
+abbrev pub slotIn : List ℕ → ℕ → List ℕ
+slotIn area k = part (slotOctets * k) (slotOctets * (k + 1)) area
+
+-- the header and data octets of slot s; a dummy has none
+unfoldable pub octetsOfSlot : Plan → ℕ → ℕ
+octetsOfSlot p s = pick (carries p s) (sourceOctets (rowsOfSlot p s)) 0
+
+-- "In the other area the data slots lie end to end": where the header and data octets of slot k + 1 begin
+unfoldable pub sourceFrom : Plan → ℕ → ℕ
+sourceFrom p k = sum k (λ i. octetsOfSlot p (i + 1))
+
+abbrev pub sourceIn : Plan → List ℕ → ℕ → List ℕ
+sourceIn p area k = part (sourceFrom p k) (sourceFrom p (k + 1)) area
+
+-- the coded frame, from all header and data octets, in an area with what was found in it
+unfoldable pub frameOf : Plan → List ℕ → ℕ → ℕ → List ℕ → List ℕ → List ℕ
+frameOf p ts mask start source found =
+    joined 120 (λ k. codedAt (stateBefore p mask start k) ts (sourceIn p source k) (slotIn found k))
+
+-- the 120 answer octets of a received frame: "one for each slot"
+unfoldable pub answersOf : Plan → List ℕ → ℕ → ℕ → List ℕ → List ℕ
+answersOf p ts mask start frame = table 120 (λ k. answerAt (stateBefore p mask start k) ts (slotIn frame k))
+
+-- all header and data octets of a received frame, in an area with what was found in it
+unfoldable pub sourcesOf : Plan → List ℕ → ℕ → ℕ → List ℕ → List ℕ → List ℕ
+sourcesOf p ts mask start frame found =
+    joined 120 (λ k. readAt (stateBefore p mask start k) ts (slotIn frame k) (sourceIn p found k))
+
+-- "Whole frame: 1, 6, 4, 5", with the lengths of the two areas
+unfoldable pub frameNumber : Plan → ℕ → ℕ → List ℕ → ℕ → ℕ → ℕ
+frameNumber p mask start ts source frame =
+    andThen (openNumber p mask start)
+    (andThen (pick (eqb source (sourceFrom p 120) && eqb frame frameOctets) 0 LENGTH)
+    (pick (tablesOk p ts) 0 TABLE))
+
+-- and in reading with that of the answers
+unfoldable pub readFrameNumber : Plan → ℕ → ℕ → List ℕ → ℕ → ℕ → ℕ → ℕ
+readFrameNumber p mask start ts source frame answers =
+    andThen (openNumber p mask start)
+    (andThen (pick (eqb answers 120 && (eqb source (sourceFrom p 120) && eqb frame frameOctets)) 0 LENGTH)
+    (pick (tablesOk p ts) 0 TABLE))

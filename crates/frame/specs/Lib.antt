@@ -1,0 +1,9 @@
+pub mod Tables
+pub mod TableLaws
+pub mod Steps
+pub mod StepLaws
+pub mod Frames
+pub mod FrameLaws
+pub mod CallLaws
+pub mod SlotBySlot
+pub mod Needs

@@ -1,0 +1,14 @@
+// What coding and reading a whole frame share: the number of a whole-frame call, where the groups' tables lie, and how many
+// header and data octets a slot has.
+mod calls;
+mod sources;
+mod tables;
+
+pub use calls::frame_number;
+pub use sources::slot_octets;
+
+// The slots of a frame.
+const SLOTS: usize = 120;
+
+// A whole frame, 5,610 octets for each slot.
+const FRAME_OCTETS: usize = 673200;
