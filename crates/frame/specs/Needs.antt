@@ -26,10 +26,12 @@ pub record Found (p : Plan) (ends : List ℕ) : Type 0 where
 pub record Placed (s : FrameState) (ts ends source : List ℕ) : Type 0 where
   pub ready : Ready s
   pub tables : tablesOk (planIn s) ts ≡ true
+  pub ends-long : length ends ≡ 9
   pub ends-are : Ends (planIn s) ts ends
   pub source-long : length source ≡ octetsOfSlot (planIn s) (s .slot)
 
 -- all that the work on a frame's slots is lent
 pub record Framed (p : Plan) (mask start : ℕ) (ts ends source frame : List ℕ) : Type 0 where
   pub lent : Lent p mask start ts (length source) (length frame)
+  pub ends-long : length ends ≡ 9
   pub ends-are : Ends p ts ends
