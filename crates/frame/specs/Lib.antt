@@ -7,3 +7,4 @@ pub mod FrameLaws
 pub mod CallLaws
 pub mod SlotBySlot
 pub mod Needs
+pub mod PlacedLaws

@@ -28,11 +28,11 @@ use Rattle.frame.specs.FrameLaws.{At, at, register-none, state-more, dat
 
 -- a slot call at a state that is ready, with the group's table and areas of the right lengths
 module _ (s : FrameState) (ts source coded : List ℕ) (n : slotNumber s (tableAt s ts) source coded ≡ 0) (c : carries (planIn s) (s .slot) ≡ true) where
-  code-answer : (codeAnswer s (tableAt s ts) source coded .number ≡ 0) × (codeAnswer s (tableAt s ts) source coded .state ≡ stateAfter s)
+  pub code-answer : (codeAnswer s (tableAt s ts) source coded .number ≡ 0) × (codeAnswer s (tableAt s ts) source coded .state ≡ stateAfter s)
   unfolding codeAnswer
   code-answer = (n, rw (eq-eqb _ 0 n) (sym (after-data s ts c)))
 
-  code-area : codeArea s (tableAt s ts) source coded ≡ codedAt s ts source coded
+  pub code-area : codeArea s (tableAt s ts) source coded ≡ codedAt s ts source coded
   unfolding codeArea
   code-area = rw (eq-eqb _ 0 n) (sym (coded-data s ts c source coded))
 
@@ -40,16 +40,16 @@ module _ (s : FrameState) (ts source coded : List ℕ) (n : slotNumber s (tableA
   unfolding readNumber
   read-number = then-next _ _ n ∙ sym (answer-data s ts c coded)
 
-  read-answer : (readAnswer s (tableAt s ts) coded source .number ≡ answerAt s ts coded) × (readAnswer s (tableAt s ts) coded source .state ≡ stateAfter s)
+  pub read-answer : (readAnswer s (tableAt s ts) coded source .number ≡ answerAt s ts coded) × (readAnswer s (tableAt s ts) coded source .state ≡ stateAfter s)
   unfolding readAnswer
   read-answer = (read-number, rw (eq-eqb _ 0 n) (sym (after-data s ts c)))
 
-  read-area : readArea s (tableAt s ts) coded source ≡ readAt s ts coded source
+  pub read-area : readArea s (tableAt s ts) coded source ≡ readAt s ts coded source
   unfolding readArea readAt
   read-area = rw read-number
 
 -- passing a dummy
-pass-answer : (s : FrameState) (ts : List ℕ) → Ready s → carries (planIn s) (s .slot) ≡ false → (passed s .number ≡ 0) × (passed s .state ≡ stateAfter s)
+pub pass-answer : (s : FrameState) (ts : List ℕ) → Ready s → carries (planIn s) (s .slot) ≡ false → (passed s .number ≡ 0) × (passed s .state ≡ stateAfter s)
 unfolding passed
 pass-answer s ts r c = (pass-yes s r c, rw (eq-eqb (passNumber s) 0 (pass-yes s r c)) (sym (after-dummy s ts c)))
 
