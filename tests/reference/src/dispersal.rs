@@ -1,5 +1,11 @@
 //! Energy dispersal, document 002, 2.2.1.6: a run of bits added to what a shift register gives out, bit by bit.
 
+/// Whether document 01 allows the settings: a mask whose highest bit is the top weight, and a start that is not 0 (from
+/// which the register would never move) and fits the width.
+pub fn allowed(width: u32, mask: u32, start: u32) -> bool {
+    mask >> (width - 1) == 1 && start != 0 && start >> width == 0
+}
+
 /// The register after a bit: shifted up one place within its width, with the parity of what register and mask share.
 pub fn step(width: u32, mask: u32, register: u32) -> u32 {
     let feedback = (register & mask).count_ones() % 2;
@@ -18,6 +24,16 @@ pub fn disperse(width: u32, mask: u32, mut register: u32, bits: &mut [u8]) -> u3
 #[cfg(test)]
 mod tests {
     use super::*;
+
+    #[test]
+    fn settings_at_the_edges() {
+        for width in [15, 25] {
+            let (top, above) = (1 << (width - 1), 1 << width);
+            assert!(allowed(width, top, 1) && allowed(width, above - 1, above - 1));
+            assert!(!allowed(width, top - 1, 1) && !allowed(width, above, 1) && !allowed(width, above | top, 1));
+            assert!(!allowed(width, top, 0) && !allowed(width, top, above));
+        }
+    }
 
     #[test]
     fn a_lone_top_tap_gives_24_zeros_then_a_one() {

@@ -2,6 +2,9 @@
 
 pub const GROUP: usize = 374;
 
+/// Table 2.2.1-4: how many of 120 groups of bits stand before the parity, rate 1 first.
+pub const ROWS: [usize; 11] = [41, 49, 61, 73, 81, 89, 93, 97, 101, 105, 109];
+
 /// Where the bit `m` of a row is added for one address of that row: q is 120 less the number of rows.
 pub fn position(rows: usize, address: usize, m: usize) -> usize {
     let q = 120 - rows;

@@ -1,17 +1,23 @@
-//! A second implementation of the slot coder and reader, written from document 002 and, where its drawings are lost,
-//! from document 01. It shares nothing with the proved crates: bits lie one to an octet, and each step is the document's.
+//! A second implementation of the coders and readers of slots, whole frames and TMCC blocks, written from document 002
+//! and, where its drawings are lost, from document 01. It shares nothing with the proved crates: bits lie one to an octet,
+//! and each step is the document's.
 //!
 //!     reference vectors             the lines that the program slot_vectors must write
+//!     reference frames              lines of whole frames and TMCC blocks, coded, read back and read when damaged
 //!     reference bench CODED READ    the work of the program slot_bench
 //!     reference quick CODED READ    the same work by the loops of the proved code, for the benchmark alone
 mod bch;
 mod bench;
 mod dispersal;
+mod frame;
+mod frames;
 mod ldpc;
+mod plan;
 mod quick;
 mod samples;
 mod slot;
 mod tables;
+mod tmcc;
 mod vectors;
 
 fn main() {
@@ -19,9 +25,10 @@ fn main() {
     let words: Vec<&str> = words.iter().map(String::as_str).collect();
     match words[..] {
         ["vectors"] => vectors::print(),
+        ["frames"] => frames::print(),
         [way @ ("bench" | "quick"), coded, read] => {
             bench::print(way == "quick", coded.parse().expect("a count"), read.parse().expect("a count"))
         }
-        _ => panic!("reference vectors, bench CODED READ, or quick CODED READ"),
+        _ => panic!("reference vectors, frames, bench CODED READ, or quick CODED READ"),
     }
 }

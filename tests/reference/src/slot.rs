@@ -6,9 +6,15 @@ pub const STUFF: [u8; 6] = [1; 6];
 pub const WIDTH: u32 = 25;
 
 /// Refusals of document 01.
+pub const PLAN_WRONG: u8 = 1;
+pub const DUMMY: u8 = 2;
+pub const LENGTH_WRONG: u8 = 4;
+pub const TABLE_WRONG: u8 = 5;
+pub const REGISTER_WRONG: u8 = 6;
 pub const PARITY_WRONG: u8 = 8;
 pub const BCH_WRONG: u8 = 9;
 pub const STUFF_WRONG: u8 = 10;
+pub const TAIL_WRONG: u8 = 11;
 
 /// What a rate fixes: its table and the generator of the outer code.
 pub struct Code {
@@ -28,8 +34,13 @@ impl Code {
 
     /// How many bits header and data have.
     pub fn message_bits(&self) -> usize {
-        self.dispersed_bits() - bch::BITS - STUFF.len()
+        message_bits(self.table.len())
     }
+}
+
+/// How many bits header and data have at a rate of so many rows.
+pub fn message_bits(rows: usize) -> usize {
+    ldpc::GROUP * rows - bch::BITS - STUFF.len()
 }
 
 pub fn bits_of(octets: &[u8]) -> Vec<u8> {
@@ -84,6 +95,13 @@ mod tests {
             assert_eq!(code.message_bits() - 176, data[rate]);
             assert_eq!(8 * OCTETS - code.dispersed_bits(), parity[rate]);
         }
+    }
+
+    #[test]
+    fn the_register_after_a_slot_of_rate_1() {
+        let code = Code::new(tables().swap_remove(0));
+        let (_, after) = code_slot(&code, 1 << 24, 1, &vec![0; code.message_bits() / 8]);
+        assert_eq!(after, 512);
     }
 
     #[test]

@@ -5,15 +5,15 @@ use crate::samples::{digest, octets, MASK, START};
 use crate::slot::{bits_of, code_slot, octets_of, read_slot, Code, OCTETS, PARITY_WRONG};
 use crate::tables::tables;
 
-/// A slot whose first bit of an octet is the other one.
-fn damaged(coded: &[u8], octet: usize) -> Vec<u8> {
+/// A slot, or another run of octets, where the first bit of an octet is the other one.
+pub fn damaged(coded: &[u8], octet: usize) -> Vec<u8> {
     let mut slot = coded.to_vec();
     slot[octet] ^= 0x80;
     slot
 }
 
 /// A slot with its parity made anew.
-fn with_parity_anew(code: &Code, coded: &[u8]) -> Vec<u8> {
+pub fn with_parity_anew(code: &Code, coded: &[u8]) -> Vec<u8> {
     let mut bits = bits_of(coded);
     bits.truncate(code.dispersed_bits());
     bits.extend(ldpc::parity(&code.table, &bits));
