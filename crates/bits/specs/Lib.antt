@@ -3,6 +3,7 @@ pub mod DigitLaws
 pub mod DigitParts
 pub mod Octets
 pub mod OctetLaws
+pub mod OctetParts
 pub mod Sums
 pub mod SumLaws
 pub mod Needs

@@ -7,8 +7,9 @@ use native.Mathlib.Omega.{arith}
 use native.Mathlib.Numerals.{add-one}
 use lib.ListN.{length, getD}
 use Rattle.lists.specs.Choice.{pick}
-use Rattle.lists.specs.CountLaws.{joinedAt, joined-cut, joined-each, length-joined, sum-more, sum-none, sum-same, sum-mono, getD-table}
+use Rattle.lists.specs.CountLaws.{joinedAt, length-joined, sum-more, sum-none, sum-same, sum-mono, getD-table}
 use Rattle.lists.specs.PartLaws.{length-part}
+use Rattle.lists.specs.Pieces.{pieces-cut, length-pieces, pieces-at}
 use Rattle.dispersal.specs.Register.{registerOk}
 use Rattle.dispersal.specs.RegisterLaws.{after-ok}
 use Rattle.ldpc.specs.Tables.{tableOk}
@@ -125,20 +126,20 @@ module _ (p : Plan) (ts : List ℕ) (mask start : ℕ) (source found : List ℕ)
 
   pub length-frameOf : length (frameOf p ts mask start source found) ≡ frameOctets
   unfolding frameOf parts
-  length-frameOf = length-joined 120 parts ∙ joined-each 120 slotOctets parts length-part-at 120 (omega arith)
+  length-frameOf = length-pieces 120 slotOctets parts length-part-at
 
   -- the part of slot k + 1 in a coded frame
   pub slot-at : (k : ℕ) → k < 120 → slotIn (frameOf p ts mask start source found) k ≡ codedAt (stateBefore p mask start k) ts (sourceIn p source k) (slotIn found k)
   unfolding frameOf parts
-  slot-at k h = joined-cut 120 parts (λ (i : ℕ). slotOctets * i) (joined-each 120 slotOctets parts length-part-at) k h
+  slot-at k h = pieces-at 120 slotOctets parts length-part-at k h
 
--- a read frame
+-- the answer octet of slot k + 1 in a read frame
+pub answer-at : (p : Plan) (ts : List ℕ) (mask start : ℕ) (frame : List ℕ) (k : ℕ) → k < 120
+    → getD (answersOf p ts mask start frame) k 0 ≡ answerAt (stateBefore p mask start k) ts (slotIn frame k)
+unfolding answersOf
+answer-at p ts mask start frame k h = getD-table 120 (λ i. answerAt (stateBefore p mask start i) ts (slotIn frame i)) k h
+
 module _ (p : Plan) (ts : List ℕ) (mask start : ℕ) (frame found : List ℕ) (l : length found ≡ sourceFrom p 120) where
-  -- the answer octet of slot k + 1
-  pub answer-at : (k : ℕ) → k < 120 → getD (answersOf p ts mask start frame) k 0 ≡ answerAt (stateBefore p mask start k) ts (slotIn frame k)
-  unfolding answersOf
-  answer-at k h = getD-table 120 (λ i. answerAt (stateBefore p mask start i) ts (slotIn frame i)) k h
-
   sources : ℕ → List ℕ
   sources k = readAt (stateBefore p mask start k) ts (slotIn frame k) (sourceIn p found k)
 
@@ -157,4 +158,4 @@ module _ (p : Plan) (ts : List ℕ) (mask start : ℕ) (frame found : List ℕ) 
   -- the header and data octets of slot k + 1 in a read frame
   pub source-at : (k : ℕ) → k < 120 → sourceIn p (sourcesOf p ts mask start frame found) k ≡ readAt (stateBefore p mask start k) ts (slotIn frame k) (sourceIn p found k)
   unfolding sourcesOf sources
-  source-at k h = joined-cut 120 sources (sourceFrom p) begins k h
+  source-at k h = pieces-cut 120 sources (sourceFrom p) begins k h

@@ -24,7 +24,8 @@ use Rattle.frame.specs.Tables.{tablesOk}
 use Rattle.frame.specs.Steps.{tableAt, codedAt, answerAt, readAt, stateAfter}
 use Rattle.frame.specs.StepLaws.{coded-data, answer-data, after-data, after-dummy}
 use Rattle.frame.specs.Frames.{frameOctets, rowsOfSlot, registerBefore, stateBefore, slotIn, sourceFrom, sourceIn}
-use Rattle.frame.specs.FrameLaws.{At, at, register-none, state-more, data-long, length-slotIn}
+use Rattle.frame.specs.FrameLaws.{at, register-none, state-more, state-ready, data-long, length-slotIn}
+use Rattle.frame.specs.CallLaws.{Lent}
 
 -- a slot call at a state that is ready, with the group's table and areas of the right lengths
 module _ (s : FrameState) (ts source coded : List ℕ) (n : slotNumber s (tableAt s ts) source coded ≡ 0) (c : carries (planIn s) (s .slot) ≡ true) where
@@ -69,3 +70,44 @@ module _ (p : Plan) (mask start : ℕ) (ts source frame : List ℕ) where
       pick (carries (planIn (readTo k)) (readTo k .slot))
       (readAnswer (readTo k) (tableAt (readTo k) ts) (slotIn frame k) (sourceIn p source k) .state)
       (passed (readTo k) .state)
+
+  module _ (l : Lent p mask start ts (length source) (length frame)) where
+    -- at a data slot the slot call is refused for nothing
+    pub taken : (k : ℕ) → k < 120 → carries p (k + 1) ≡ true → slotNumber (stateBefore p mask start k) (tableAt (stateBefore p mask start k) ts) (sourceIn p source k) (slotIn frame k) ≡ 0
+    unfolding rowsAt
+    taken k h c =
+        let s = stateBefore p mask start k in
+        let a = at p ts mask start (l .opened) (l .tables) k h in
+        slot-yes s (tableAt s ts) (sourceIn p source k) (slotIn frame k)
+        (record {
+          place = record { ready = a .ready; carries = c; rows = a .rows };
+          areas = record { source-long = data-long p source (l .source-long) k h c; coded-long = length-slotIn frame k (l .frame-long) h; table = a .table };
+        })
+
+    first : opened p mask start .state ≡ stateBefore p mask start 0
+    unfolding opened
+    first = rw (eq-eqb (openNumber p mask start) 0 (l .opened), register-none p mask start)
+
+    -- one slot more
+    coded-next : (k : ℕ) → k < 120 → (b : Bool) → carries p (k + 1) ≡ b
+        → let s = stateBefore p mask start k in
+        pick b (codeAnswer s (tableAt s ts) (sourceIn p source k) (slotIn frame k) .state) (passed s .state) ≡ stateBefore p mask start (k + 1)
+    coded-next k h true c = code-answer (stateBefore p mask start k) ts (sourceIn p source k) (slotIn frame k) (taken k h c) c .1 ∙ state-more p mask start k
+    coded-next k h false c = pass-answer (stateBefore p mask start k) ts (state-ready p mask start (l .opened) k h) c .1 ∙ state-more p mask start k
+
+    read-next : (k : ℕ) → k < 120 → (b : Bool) → carries p (k + 1) ≡ b
+        → let s = stateBefore p mask start k in
+        pick b (readAnswer s (tableAt s ts) (slotIn frame k) (sourceIn p source k) .state) (passed s .state) ≡ stateBefore p mask start (k + 1)
+    read-next k h true c = read-answer (stateBefore p mask start k) ts (sourceIn p source k) (slotIn frame k) (taken k h c) c .1 ∙ state-more p mask start k
+    read-next k h false c = pass-answer (stateBefore p mask start k) ts (state-ready p mask start (l .opened) k h) c .1 ∙ state-more p mask start k
+
+    -- the states on the way are the frame's
+    pub coded-to : (k : ℕ) → k ≤ 120 → codedTo k ≡ stateBefore p mask start k
+    unfolding codedTo
+    coded-to zero h = first
+    coded-to (suc k) h = rw (coded-to k (omega arith), ← add-one k) (coded-next k h (carries p (k + 1)) refl)
+
+    pub read-to : (k : ℕ) → k ≤ 120 → readTo k ≡ stateBefore p mask start k
+    unfolding readTo
+    read-to zero h = first
+    read-to (suc k) h = rw (read-to k (omega arith), ← add-one k) (read-next k h (carries p (k + 1)) refl)

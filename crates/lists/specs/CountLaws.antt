@@ -4,7 +4,7 @@ use mathlib.Core.Logic.{⊎-elim}
 use mathlib.Core.Bool.{Bool, true, false, _&&_}
 use mathlib.Core.List.{List, [], _∷_, _++_}
 use Prim.Native.Nat.{ℕ, zero, suc, _+_, _-_, _*_, _<_, _≤_}
-use native.Mathlib.Nat.{le-of-suc-le-suc, eq-or-lt-of-le, not-suc-le-zero, suc-mul, mul-comm}
+use native.Mathlib.Nat.{le-of-suc-le-suc, eq-or-lt-of-le, not-suc-le-zero, suc-mul}
 use native.Mathlib.Decide.{ℕ-discrete, decLt}
 use native.Mathlib.Numerals.{add-one}
 use native.Mathlib.Omega.{arith}
@@ -198,11 +198,3 @@ joined-part (suc n) f k h =
     let d : drop (joinedAt f k) (joined n f ++ f n) ≡ drop (joinedAt f k) (joined n f) ++ f n = drop-append-le (joinedAt f k) (joined n f) (f n) (omega arith) in
     let s : length (drop (joinedAt f k) (joined n f)) ≡ length (joined n f) - joinedAt f k = length-drop (joinedAt f k) (joined n f) in
     rw d (take-append-le (joinedAt f (k + 1) - joinedAt f k) (drop (joinedAt f k) (joined n f)) (f n) (omega arith) ∙ joined-part n f k w))
-
--- list k of lists end to end, where it is known that the lists begin at `from`
-pub joined-cut : (n : ℕ) (f : ℕ → List ℕ) (from : ℕ → ℕ) → ((k : ℕ) → k ≤ n → joinedAt f k ≡ from k) → (k : ℕ) → k < n → part (from k) (from (k + 1)) (joined n f) ≡ f k
-joined-cut n f from e k h = rw (← e k (omega arith), ← e (k + 1) (omega arith)) (joined-part n f k h)
-
--- lists of w elements each
-pub joined-each : (n w : ℕ) (f : ℕ → List ℕ) → ((i : ℕ) → i < n → length (f i) ≡ w) → (k : ℕ) → k ≤ n → joinedAt f k ≡ w * k
-joined-each n w f h k l = sum-each k w (λ i. length (f i)) (λ i j. h i (omega arith)) ∙ mul-comm k w

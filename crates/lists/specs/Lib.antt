@@ -6,6 +6,7 @@ pub mod Filling
 pub mod FillingLaws
 pub mod Parts
 pub mod PartLaws
+pub mod Pieces
 pub mod Runs
 pub mod RunLaws
 pub mod ThreeRuns

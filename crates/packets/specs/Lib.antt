@@ -1,4 +1,3 @@
 pub mod Needs
-pub mod Pieces
 pub mod Packets
 pub mod PacketLaws

@@ -19,7 +19,7 @@ use Rattle.plan.specs.Rates.{rateOk, dataOctetsOf, packetsOf}
 use Rattle.plan.specs.RateLaws.{rate-sizes}
 use Rattle.refusal.specs.Answers.{BackAgain}
 use Rattle.packets.specs.Packets.{syncOctet, carried, packed, restored, unpacked, beginsSync, sizeNumber, packNumber, unpackNumber}
-use Rattle.packets.specs.Pieces.{length-pieces, pieces-at, pieces-whole}
+use Rattle.lists.specs.Pieces.{length-pieces, pieces-at, pieces-whole}
 
 pub packed-none : (packets : List ℕ) → packed 0 packets ≡ []
 unfolding packed

@@ -1,0 +1,184 @@
+-- Demand 2, proved.
+use mathlib.Core.Path.{_≡_, refl, sym, ap, _∙_}
+use mathlib.Core.Bool.{Bool, true, false}
+use mathlib.Core.List.{List}
+use Prim.Native.Nat.{ℕ, _+_, _-_, _*_, _<_}
+use native.Mathlib.Omega.{arith}
+use borrow.Author.Tests.{eq-eqb}
+use lib.ListN.{length, getD}
+use Rattle.lists.specs.Choice.{pick}
+use Rattle.lists.specs.Count.{joined}
+use Rattle.lists.specs.CountLaws.{joined-same}
+use Rattle.lists.specs.Pieces.{pieces-all}
+use Rattle.lists.specs.Runs.{Octets}
+use Rattle.lists.specs.RunLaws.{below-part}
+use Rattle.refusal.specs.Numbers.{DUMMY}
+use Rattle.plan.specs.declared.Plan.{Plan}
+use Rattle.plan.specs.declared.FrameState.{FrameState}
+use Rattle.plan.specs.Places.{carries}
+use Rattle.plan.specs.States.{passed}
+use Rattle.symbols.specs.CallLaws.{slot-labels-slot, labels-slot-labels, block-labels-block, labels-block-labels}
+use Rattle.slot.specs.Slots.{slotOctets, slotOf}
+use Rattle.slot.specs.SlotLaws.{Source}
+use Rattle.slot.specs.Reading.{receivedNumber, sourceOf}
+use Rattle.slot.specs.ReadingLaws.{Received}
+use Rattle.slot.specs.Calls.{rowsAt, codeAnswer, codeArea, readAnswer, readArea}
+use Rattle.slot.specs.RoundTrips as slots
+use Rattle.tmcc.specs.RoundTrips as blocks
+use Rattle.frame.specs.Steps.{tableAt, codedAt, answerAt, readAt}
+use Rattle.frame.specs.StepLaws.{coded-data, coded-dummy, answer-data, answer-dummy, read-dummy}
+use Rattle.frame.specs.Frames.{frameOctets, rowsOfSlot, registerBefore, stateBefore, slotIn, octetsOfSlot, sourceFrom, sourceIn, frameOf, answersOf, sourcesOf, frameNumber, readFrameNumber}
+use Rattle.frame.specs.FrameLaws.{At, at, sourceFrom-none, sourceFrom-more, data-long, length-slotIn, length-frameOf, length-sourcesOf, slot-at, answer-at, source-at}
+use Rattle.frame.specs.CallLaws.{Lent, frame-lent, frame-yes, read-lent, read-yes}
+use Rattle.frame.specs.SlotBySlot.{codedTo, readTo, coded-to, read-to, taken, code-answer, code-area, read-answer, read-area, pass-answer}
+use Rattle.demands.specs.Statements.{SlotCodedThenRead, SlotReadThenCoded, FrameBack, FrameCodedThenRead, FrameAgain, FrameReadThenCoded, CodedBySlots, FrameCodedBySlots, ReadBySlots, FrameReadBySlots, BlockCodedThenRead, BlockReadThenCoded, SlotLabelsBack, LabelsSlotBack, BlockLabelsBack, LabelsBlockBack}
+
+pub slot-coded-then-read : SlotCodedThenRead
+slot-coded-then-read = slots.code-then-read
+
+pub slot-read-then-coded : SlotReadThenCoded
+slot-read-then-coded = slots.read-then-code
+
+pub block-coded-then-read : BlockCodedThenRead
+block-coded-then-read = blocks.code-then-read
+
+pub block-read-then-coded : BlockReadThenCoded
+block-read-then-coded = blocks.read-then-code
+
+pub slot-labels-back : SlotLabelsBack
+slot-labels-back = slot-labels-slot
+
+pub labels-slot-back : LabelsSlotBack
+labels-slot-back = labels-slot-labels
+
+pub block-labels-back : BlockLabelsBack
+block-labels-back = block-labels-block
+
+pub labels-block-back : LabelsBlockBack
+labels-block-back = labels-block-labels
+
+-- a dummy has no header and data octets
+no-octets : (p : Plan) (u v : List ℕ) (k : ℕ) → carries p (k + 1) ≡ false → sourceIn p u k ≡ sourceIn p v k
+unfolding octetsOfSlot
+no-octets p u v k c =
+    let z : octetsOfSlot p (k + 1) ≡ 0 = rw c in
+    let e : sourceFrom p (k + 1) - sourceFrom p k ≡ 0 = omega (arith, sourceFrom-more p k) in
+    rw e
+
+-- a data slot of a coded frame, read: 0, and its header and data octets
+module _ (p : Plan) (mask start : ℕ) (ts source frame out : List ℕ) (o : Octets source)
+    (l : Lent p mask start ts (length source) (length frame)) (k : ℕ) (h : k < 120) where
+  abbrev here : FrameState
+  here = stateBefore p mask start k
+
+  abbrev coded : List ℕ
+  coded = frameOf p ts mask start source frame
+
+  abbrev reading : ℕ → List ℕ → Type 0
+  reading n octets = (answerAt here ts (slotIn coded k) ≡ n) × (readAt here ts (slotIn coded k) (sourceIn p out k) ≡ octets)
+
+  data-back : carries p (k + 1) ≡ true → reading 0 (sourceIn p source k)
+  unfolding readAt rowsAt
+  data-back c =
+      let a = at p ts mask start (l .opened) (l .tables) k h in
+      let e : slotIn coded k ≡ slotOf (rowsOfSlot p (k + 1)) (tableAt here ts) mask (registerBefore p mask start k) (sourceIn p source k)
+      = slot-at p ts mask start source frame (l .frame-long) k h ∙ coded-data here ts c (sourceIn p source k) (slotIn frame k) in
+      let s : Source (rowsOfSlot p (k + 1)) (sourceIn p source k)
+      = record { octets = below-part 255 (sourceFrom p k) (sourceFrom p (k + 1)) source o; long = data-long p source (l .source-long) k h c } in
+      let r = slots.coded-read (rowsOfSlot p (k + 1)) (tableAt here ts) mask (registerBefore p mask start k) (sourceIn p source k) (a .rows) s in
+      let n : answerAt here ts (slotIn coded k) ≡ 0
+      = answer-data here ts c (slotIn coded k) ∙ ap (receivedNumber (rowsOfSlot p (k + 1)) (tableAt here ts) mask (registerBefore p mask start k)) e ∙ r .number in
+      (n, rw (eq-eqb _ 0 n) (ap (sourceOf (rowsOfSlot p (k + 1)) mask (registerBefore p mask start k)) e ∙ r .source))
+
+  dummy-back : carries p (k + 1) ≡ false → reading DUMMY (sourceIn p source k)
+  dummy-back c =
+      (answer-dummy here ts c (slotIn coded k), read-dummy here ts c (slotIn coded k) (sourceIn p out k) ∙ no-octets p out source k c)
+
+  slot-back : reading (pick (carries p (k + 1)) 0 DUMMY) (sourceIn p source k)
+  slot-back = go (carries p (k + 1)) refl
+    where
+      go : (b : Bool) → carries p (k + 1) ≡ b → reading (pick (carries p (k + 1)) 0 DUMMY) (sourceIn p source k)
+      go true c = rw c (data-back c)
+      go false c = rw c (dummy-back c)
+
+pub frame-coded-then-read : FrameCodedThenRead
+unfolding sourcesOf
+frame-coded-then-read p mask start ts source frame out answers o lo la n =
+    let l = frame-lent p mask start ts (length source) (length frame) n in
+    let c = frameOf p ts mask start source frame in
+    record {
+      number = read-yes p mask start ts (length out) (length c) (length answers) la
+      (record { opened = l .opened; source-long = lo ∙ l .source-long; frame-long = length-frameOf p ts mask start source frame (l .frame-long); tables = l .tables });
+      sources = joined-same 120 (λ k. readAt (stateBefore p mask start k) ts (slotIn c k) (sourceIn p out k)) (sourceIn p source) (λ k h. slot-back p mask start ts source frame out o l k h .1)
+      ∙ pieces-all 120 (sourceFrom p) source (sourceFrom-none p) (λ k h. omega (arith, sourceFrom-more p k)) (l .source-long);
+      each = λ k h. answer-at p ts mask start c k h ∙ slot-back p mask start ts source frame out o l k h .0;
+    }
+
+-- an accepted data slot of a frame that was read, coded again
+module _ (p : Plan) (mask start : ℕ) (ts frame source out : List ℕ) (o : Octets frame) (lo : length out ≡ frameOctets)
+    (l : Lent p mask start ts (length source) (length frame)) (k : ℕ) (h : k < 120) (c : carries p (k + 1) ≡ true) where
+  slot-again : getD (answersOf p ts mask start frame) k 0 ≡ 0 → slotIn (frameOf p ts mask start (sourcesOf p ts mask start frame source) out) k ≡ slotIn frame k
+  unfolding readAt rowsAt
+  slot-again e =
+      let s = stateBefore p mask start k in
+      let R = rowsOfSlot p (k + 1) in
+      let t = tableAt s ts in
+      let r = registerBefore p mask start k in
+      let d = slotIn frame k in
+      let m = sourcesOf p ts mask start frame source in
+      let n : answerAt s ts d ≡ 0 = sym (answer-at p ts mask start frame k h) ∙ e in
+      let g : receivedNumber R t mask r d ≡ 0 = sym (answer-data s ts c d) ∙ n in
+      let w : Received d = record { octets = below-part 255 (slotOctets * k) (slotOctets * (k + 1)) frame o; long = length-slotIn frame k (l .frame-long) h } in
+      let z : sourceIn p m k ≡ sourceOf R mask r d = source-at p ts mask start frame source (l .source-long) k h ∙ rw (eq-eqb _ 0 n) in
+      slot-at p ts mask start m out lo k h
+      ∙ coded-data s ts c (sourceIn p m k) (slotIn out k)
+      ∙ ap (slotOf R t mask r) z
+      ∙ slots.read-coded R t mask r d (at p ts mask start (l .opened) (l .tables) k h .rows) w g
+
+pub frame-read-then-coded : FrameReadThenCoded
+frame-read-then-coded p mask start ts frame source answers out o lo n =
+    let l = read-lent p mask start ts (length source) (length frame) (length answers) n .1 in
+    let long = length-sourcesOf p ts mask start frame source (l .source-long) in
+    record {
+      number = frame-yes p mask start ts (length (sourcesOf p ts mask start frame source)) (length out)
+      (record { opened = l .opened; source-long = long; frame-long = lo ∙ l .frame-long; tables = l .tables });
+      slots = λ k h c. slot-again p mask start ts frame source out o (lo ∙ l .frame-long) l k h c;
+    }
+
+pub frame-coded-by-slots : FrameCodedBySlots
+frame-coded-by-slots p mask start ts source frame n =
+    let l = frame-lent p mask start ts (length source) (length frame) n in
+    let to = coded-to p mask start ts source frame l in
+    record {
+      state = to;
+      data-slot = λ k h c.
+          let s = stateBefore p mask start k in
+          let t = taken p mask start ts source frame l k h c in
+          rw (to k (omega arith))
+          (code-answer s ts (sourceIn p source k) (slotIn frame k) t c .0,
+          code-area s ts (sourceIn p source k) (slotIn frame k) t c ∙ sym (slot-at p ts mask start source frame (l .frame-long) k h));
+      dummy = λ k h c.
+          let s = stateBefore p mask start k in
+          rw (to k (omega arith))
+          (pass-answer s ts (at p ts mask start (l .opened) (l .tables) k h .ready) c .0,
+          slot-at p ts mask start source frame (l .frame-long) k h ∙ coded-dummy s ts c (sourceIn p source k) (slotIn frame k));
+    }
+
+pub frame-read-by-slots : FrameReadBySlots
+frame-read-by-slots p mask start ts source frame answers n =
+    let l = read-lent p mask start ts (length source) (length frame) (length answers) n .1 in
+    let to = read-to p mask start ts source frame l in
+    record {
+      state = to;
+      data-slot = λ k h c.
+          let s = stateBefore p mask start k in
+          let t = taken p mask start ts source frame l k h c in
+          rw (to k (omega arith))
+          (read-answer s ts (sourceIn p source k) (slotIn frame k) t c .0 ∙ sym (answer-at p ts mask start frame k h),
+          read-area s ts (sourceIn p source k) (slotIn frame k) t c ∙ sym (source-at p ts mask start frame source (l .source-long) k h));
+      dummy = λ k h c.
+          let s = stateBefore p mask start k in
+          rw (to k (omega arith))
+          (pass-answer s ts (at p ts mask start (l .opened) (l .tables) k h .ready) c .0,
+          answer-at p ts mask start frame k h ∙ answer-dummy s ts c (slotIn frame k));
+    }

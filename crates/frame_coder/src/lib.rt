@@ -1,0 +1,4 @@
+// Coding a whole frame, slot by slot.
+mod code;
+
+pub use code::code_frame;
