@@ -108,9 +108,9 @@ frame-coded-then-read p mask start ts source frame out answers o lo la n =
     let c = frameOf p ts mask start source frame in
     record {
       number = read-yes p mask start ts (length out) (length c) (length answers) la
-      (record { opened = l .opened; source-long = lo ∙ l .source-long; frame-long = length-frameOf p ts mask start source frame (l .frame-long); tables = l .tables });
+          (record { opened = l .opened; source-long = lo ∙ l .source-long; frame-long = length-frameOf p ts mask start source frame (l .frame-long); tables = l .tables });
       sources = joined-same 120 (λ k. readAt (stateBefore p mask start k) ts (slotIn c k) (sourceIn p out k)) (sourceIn p source) (λ k h. slot-back p mask start ts source frame out o l k h .1)
-      ∙ pieces-all 120 (sourceFrom p) source (sourceFrom-none p) (λ k h. omega (arith, sourceFrom-more p k)) (l .source-long);
+          ∙ pieces-all 120 (sourceFrom p) source (sourceFrom-none p) (λ k h. omega (arith, sourceFrom-more p k)) (l .source-long);
       each = λ k h. answer-at p ts mask start c k h ∙ slot-back p mask start ts source frame out o l k h .0;
     }
 
@@ -141,7 +141,7 @@ frame-read-then-coded p mask start ts frame source answers out o lo n =
     let long = length-sourcesOf p ts mask start frame source (l .source-long) in
     record {
       number = frame-yes p mask start ts (length (sourcesOf p ts mask start frame source)) (length out)
-      (record { opened = l .opened; source-long = long; frame-long = lo ∙ l .frame-long; tables = l .tables });
+          (record { opened = l .opened; source-long = long; frame-long = lo ∙ l .frame-long; tables = l .tables });
       slots = λ k h c. slot-again p mask start ts frame source out o (lo ∙ l .frame-long) l k h c;
     }
 
@@ -154,14 +154,16 @@ frame-coded-by-slots p mask start ts source frame n =
       data-slot = λ k h c.
           let s = stateBefore p mask start k in
           let t = taken p mask start ts source frame l k h c in
-          rw (to k (omega arith))
-          (code-answer s ts (sourceIn p source k) (slotIn frame k) t c .0,
-          code-area s ts (sourceIn p source k) (slotIn frame k) t c ∙ sym (slot-at p ts mask start source frame (l .frame-long) k h));
+          rw (to k (omega arith)) (
+            code-answer s ts (sourceIn p source k) (slotIn frame k) t c .0,
+            code-area s ts (sourceIn p source k) (slotIn frame k) t c ∙ sym (slot-at p ts mask start source frame (l .frame-long) k h),
+          );
       dummy = λ k h c.
           let s = stateBefore p mask start k in
-          rw (to k (omega arith))
-          (pass-answer s ts (at p ts mask start (l .opened) (l .tables) k h .ready) c .0,
-          slot-at p ts mask start source frame (l .frame-long) k h ∙ coded-dummy s ts c (sourceIn p source k) (slotIn frame k));
+          rw (to k (omega arith)) (
+            pass-answer s ts (at p ts mask start (l .opened) (l .tables) k h .ready) c .0,
+            slot-at p ts mask start source frame (l .frame-long) k h ∙ coded-dummy s ts c (sourceIn p source k) (slotIn frame k),
+          );
     }
 
 pub frame-read-by-slots : FrameReadBySlots
@@ -173,12 +175,14 @@ frame-read-by-slots p mask start ts source frame answers n =
       data-slot = λ k h c.
           let s = stateBefore p mask start k in
           let t = taken p mask start ts source frame l k h c in
-          rw (to k (omega arith))
-          (read-answer s ts (sourceIn p source k) (slotIn frame k) t c .0 ∙ sym (answer-at p ts mask start frame k h),
-          read-area s ts (sourceIn p source k) (slotIn frame k) t c ∙ sym (source-at p ts mask start frame source (l .source-long) k h));
+          rw (to k (omega arith)) (
+            read-answer s ts (sourceIn p source k) (slotIn frame k) t c .0 ∙ sym (answer-at p ts mask start frame k h),
+            read-area s ts (sourceIn p source k) (slotIn frame k) t c ∙ sym (source-at p ts mask start frame source (l .source-long) k h),
+          );
       dummy = λ k h c.
           let s = stateBefore p mask start k in
-          rw (to k (omega arith))
-          (pass-answer s ts (at p ts mask start (l .opened) (l .tables) k h .ready) c .0,
-          answer-at p ts mask start frame k h ∙ answer-dummy s ts c (slotIn frame k));
+          rw (to k (omega arith)) (
+            pass-answer s ts (at p ts mask start (l .opened) (l .tables) k h .ready) c .0,
+            answer-at p ts mask start frame k h ∙ answer-dummy s ts c (slotIn frame k),
+          );
     }

@@ -5,9 +5,10 @@ use mathlib.Core.List.{List}
 use Prim.Native.Nat.{ℕ, zero, suc, _+_, _*_, _<_, _≤_}
 use native.Mathlib.Omega.{arith}
 use native.Mathlib.Numerals.{add-one}
+use borrow.Author.Tests.{eq-eqb}
 use lib.ListN.{length, getD}
 use Rattle.lists.specs.Choice.{pick}
-use Rattle.lists.specs.CountLaws.{joinedAt, length-joined, sum-more, sum-none, sum-same, sum-mono, getD-table}
+use Rattle.lists.specs.CountLaws.{joinedAt, length-joined, sum-more, sum-none, sum-same, sum-mono, length-table, getD-table}
 use Rattle.lists.specs.PartLaws.{length-part}
 use Rattle.lists.specs.Pieces.{pieces-cut, length-pieces, pieces-at}
 use Rattle.dispersal.specs.Register.{registerOk}
@@ -19,7 +20,7 @@ use Rattle.plan.specs.Plans.{rateOf}
 use Rattle.plan.specs.PlanLaws.{accepted}
 use Rattle.plan.specs.Places.{groupAt, carries}
 use Rattle.plan.specs.PlaceLaws.{group-holds}
-use Rattle.plan.specs.States.{slotWidth, openNumber}
+use Rattle.plan.specs.States.{slotWidth, openNumber, opened}
 use Rattle.plan.specs.StateLaws.{Ready, open-sound}
 use Rattle.slot.specs.Slots.{slotOctets, messageBits, sourceOctets, registerAfter, coveredBits}
 use Rattle.slot.specs.Calls.{rowsAt}
@@ -82,6 +83,11 @@ module _ (p : Plan) (mask start : ℕ) where
     register-ok zero = open-sound p mask start o .register
     register-ok (suc k) = stepped-ok (carries p (k + 1)) (rowsOfSlot p (k + 1)) (registerBefore p mask start k) (register-ok k)
 
+    -- the state that opening hands out is the one before slot 1
+    pub first-state : opened p mask start .state ≡ stateBefore p mask start 0
+    unfolding opened
+    first-state = rw (eq-eqb (openNumber p mask start) 0 o, register-none)
+
     -- every state on the way can be worked on
     pub state-ready : (k : ℕ) → k < 120 → Ready (stateBefore p mask start k)
     state-ready k l =
@@ -132,6 +138,10 @@ module _ (p : Plan) (ts : List ℕ) (mask start : ℕ) (source found : List ℕ)
   pub slot-at : (k : ℕ) → k < 120 → slotIn (frameOf p ts mask start source found) k ≡ codedAt (stateBefore p mask start k) ts (sourceIn p source k) (slotIn found k)
   unfolding frameOf parts
   slot-at k h = pieces-at 120 slotOctets parts length-part-at k h
+
+pub length-answersOf : (p : Plan) (ts : List ℕ) (mask start : ℕ) (frame : List ℕ) → length (answersOf p ts mask start frame) ≡ 120
+unfolding answersOf
+length-answersOf p ts mask start frame = length-table 120 (λ k. answerAt (stateBefore p mask start k) ts (slotIn frame k))
 
 -- the answer octet of slot k + 1 in a read frame
 pub answer-at : (p : Plan) (ts : List ℕ) (mask start : ℕ) (frame : List ℕ) (k : ℕ) → k < 120

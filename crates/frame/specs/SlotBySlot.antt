@@ -14,7 +14,7 @@ use Rattle.lists.specs.ChoiceLaws.{then-next}
 use Rattle.plan.specs.declared.Plan.{Plan}
 use Rattle.plan.specs.declared.FrameState.{FrameState}
 use Rattle.plan.specs.Places.{carries}
-use Rattle.plan.specs.States.{planIn, openNumber, opened, passNumber, passed}
+use Rattle.plan.specs.States.{planIn, opened, passNumber, passed}
 use Rattle.plan.specs.StateLaws.{Ready, pass-yes}
 use Rattle.slot.specs.Slots.{slotOctets, sourceOctets, slotOf}
 use Rattle.slot.specs.Reading.{receivedNumber, sourceOf}
@@ -24,7 +24,7 @@ use Rattle.frame.specs.Tables.{tablesOk}
 use Rattle.frame.specs.Steps.{tableAt, codedAt, answerAt, readAt, stateAfter}
 use Rattle.frame.specs.StepLaws.{coded-data, answer-data, after-data, after-dummy}
 use Rattle.frame.specs.Frames.{frameOctets, rowsOfSlot, registerBefore, stateBefore, slotIn, sourceFrom, sourceIn}
-use Rattle.frame.specs.FrameLaws.{at, register-none, state-more, state-ready, data-long, length-slotIn}
+use Rattle.frame.specs.FrameLaws.{at, first-state, state-more, state-ready, data-long, length-slotIn}
 use Rattle.frame.specs.CallLaws.{Lent}
 
 -- a slot call at a state that is ready, with the group's table and areas of the right lengths
@@ -84,10 +84,6 @@ module _ (p : Plan) (mask start : ℕ) (ts source frame : List ℕ) where
           areas = record { source-long = data-long p source (l .source-long) k h c; coded-long = length-slotIn frame k (l .frame-long) h; table = a .table };
         })
 
-    first : opened p mask start .state ≡ stateBefore p mask start 0
-    unfolding opened
-    first = rw (eq-eqb (openNumber p mask start) 0 (l .opened), register-none p mask start)
-
     -- one slot more
     coded-next : (k : ℕ) → k < 120 → (b : Bool) → carries p (k + 1) ≡ b
         → let s = stateBefore p mask start k in
@@ -104,10 +100,10 @@ module _ (p : Plan) (mask start : ℕ) (ts source frame : List ℕ) where
     -- the states on the way are the frame's
     pub coded-to : (k : ℕ) → k ≤ 120 → codedTo k ≡ stateBefore p mask start k
     unfolding codedTo
-    coded-to zero h = first
+    coded-to zero h = first-state p mask start (l .opened)
     coded-to (suc k) h = rw (coded-to k (omega arith), ← add-one k) (coded-next k h (carries p (k + 1)) refl)
 
     pub read-to : (k : ℕ) → k ≤ 120 → readTo k ≡ stateBefore p mask start k
     unfolding readTo
-    read-to zero h = first
+    read-to zero h = first-state p mask start (l .opened)
     read-to (suc k) h = rw (read-to k (omega arith), ← add-one k) (read-next k h (carries p (k + 1)) refl)

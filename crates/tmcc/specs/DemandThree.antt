@@ -2,18 +2,21 @@
 -- symbols of two blocks are equal, when their BCH bits and their parities are, and that three blocks added are the
 -- block of the added TMCC bits.
 use mathlib.Core.Path.{_≡_, refl, sym, ap, ap₂, _∙_}
+use mathlib.Core.Bool.{true}
 use mathlib.Core.List.{List, _++_, append-assoc}
 use mathlib.Core.Logic.{_↔_}
 use Prim.Native.Nat.{ℕ, _+_, _*_, _%_, _<_}
 use native.Mathlib.Omega.{arith}
-use lib.ListN.{length}
+use lib.ListN.{length, drop, replicate}
 use Rattle.lists.specs.Parts.{part}
 use Rattle.lists.specs.Runs.{Bits}
+use Rattle.lists.specs.RunLaws.{below-replicate}
 use Rattle.lists.specs.ThreeRuns.{second-of-three}
 use Rattle.bits.specs.Octets.{bitsOf, octetsOf}
 use Rattle.bits.specs.OctetLaws.{bitsOf-bits, bits-octets, length-bitsOf}
+use Rattle.bits.specs.OctetParts.{length-addedOctets}
 use Rattle.bits.specs.Sums.{added, addedThree, addedOctets}
-use Rattle.bits.specs.SumLaws.{added-take, length-three, three-bits, three-append, three-same}
+use Rattle.bits.specs.SumLaws.{added-take, added-drop, length-three, three-bits, three-append, three-same}
 use Rattle.dispersal.specs.Register.{after}
 use Rattle.dispersal.specs.Dispersal.{dispersed}
 use Rattle.dispersal.specs.DispersalLaws.{length-dispersed, dispersed-append, dispersed-one, dispersed-three}
@@ -28,6 +31,8 @@ use Rattle.symbols.specs.CallLaws.{blocks-equal as label-blocks}
 use Rattle.tmcc.specs.Blocks.{blockWidth, blockRows, sourceOctets, messageBits, runBits, blockOctets, messageOf, plain, sent, zerosBefore, zerosBehind, parityInput, withParity, blockOf}
 use Rattle.tmcc.specs.BlockLaws.{length-message, message-bits, length-plain, length-run, before-bits, behind-bits, length-input, block-bits, block-run, block-parity, length-blockOf, blockOf-octets}
 use Rattle.tmcc.specs.Reading.{runIn, parityIn, messageIn, takenOff}
+use Rattle.tmcc.specs.Calls.{tailOk}
+use Rattle.tmcc.specs.CallLaws.{tail-right}
 use Rattle.tmcc.specs.RoundTrips.{block-message}
 
 -- the BCH bits of a block as sent
@@ -139,15 +144,28 @@ withParity-three t u v x a b c =
     ap (λ (s : List ℕ). addedThree u v x ++ s) (ap (parityOf blockRows t) (input-three u v x k l) ∙ parityOf-three blockRows t (parityInput u) (parityInput v) (parityInput x) ik il)
     ∙ sym (three-append u (f u) v (f v) x (f x) k l)
 
--- the TMCC bits of three sources added
-message-three : (x y z : List ℕ) → length x ≡ sourceOctets → messageOf (addedOctets sourceOctets x y z) ≡ addedThree (messageOf x) (messageOf y) (messageOf z)
-unfolding messageOf addedOctets
-message-three x y z a =
-    let u = bitsOf x in
-    let v = bitsOf y in
-    let q = bitsOf z in
-    let long : length (addedThree u v q) ≡ 8 * sourceOctets = length-three u v q ∙ length-bitsOf x ∙ ap (λ (n : ℕ). 8 * n) a in
-    rw (bits-octets sourceOctets (addedThree u v q) long (three-bits u v q), added-take messageBits (added u v) q, added-take messageBits u v)
+-- the bits of three sources added, their TMCC bits and their last two
+module _ (x y z : List ℕ) (a : length x ≡ sourceOctets) where
+  bits-three : bitsOf (addedOctets sourceOctets x y z) ≡ addedThree (bitsOf x) (bitsOf y) (bitsOf z)
+  unfolding addedOctets
+  bits-three =
+      let u = addedThree (bitsOf x) (bitsOf y) (bitsOf z) in
+      bits-octets sourceOctets u (length-three (bitsOf x) (bitsOf y) (bitsOf z) ∙ length-bitsOf x ∙ ap (λ (n : ℕ). 8 * n) a) (three-bits (bitsOf x) (bitsOf y) (bitsOf z))
+
+  message-three : messageOf (addedOctets sourceOctets x y z) ≡ addedThree (messageOf x) (messageOf y) (messageOf z)
+  unfolding messageOf
+  message-three = rw (bits-three, added-take messageBits (added (bitsOf x) (bitsOf y)) (bitsOf z), added-take messageBits (bitsOf x) (bitsOf y))
+
+  -- the sum of three that are refused for no tail is refused for none
+  pub tail-three : length y ≡ sourceOctets → length z ≡ sourceOctets → tailOk x ≡ true → tailOk y ≡ true → tailOk z ≡ true
+      → tailOk (addedOctets sourceOctets x y z) ≡ true
+  tail-three b c p q r =
+      let two : List ℕ = replicate 2 0 in
+      let e : drop messageBits (addedThree (bitsOf x) (bitsOf y) (bitsOf z)) ≡ two
+      = added-drop messageBits (added (bitsOf x) (bitsOf y)) (bitsOf z)
+      ∙ ap₂ added (added-drop messageBits (bitsOf x) (bitsOf y) ∙ ap₂ added (tail-right x a .0 p) (tail-right y b .0 q)) (tail-right z c .0 r)
+      ∙ three-same two (below-replicate 1 2 0 (omega arith)) in
+      tail-right (addedOctets sourceOctets x y z) (length-addedOctets sourceOctets x y z) .1 (ap (drop messageBits) bits-three ∙ e)
 
 -- three blocks added are the block of the added TMCC bits
 pub blocks-three : (t : List ℕ) (mask start : ℕ) (x y z : List ℕ) → length x ≡ sourceOctets → length y ≡ sourceOctets → length z ≡ sourceOctets

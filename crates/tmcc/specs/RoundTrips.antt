@@ -75,7 +75,7 @@ read-coded t mask start c o h =
     rw (sourceOf-message mask start c (o .long), d, ← g .parity, take-append-drop runBits (bitsOf c)) (octets-bits blockOctets c (o .long) (o .octets))
 
 -- of the lent areas only the lengths count for the number of a call
-lent-lengths : (mask start : ℕ) (t source block source′ block′ : List ℕ) → length source ≡ length source′ → length block ≡ length block′
+pub lent-lengths : (mask start : ℕ) (t source block source′ block′ : List ℕ) → length source ≡ length source′ → length block ≡ length block′
     → lentNumber mask start t source block ≡ lentNumber mask start t source′ block′
 unfolding lentNumber
 lent-lengths mask start t source block source′ block′ l m = rw (l, m)

@@ -2,38 +2,26 @@
 use mathlib.Core.Path.{_≡_, sym, ap, _∙_}
 use mathlib.Core.Bool.{true}
 use mathlib.Core.List.{List}
-use Prim.Native.Nat.{ℕ, _+_, _<_, _≤_}
+use Prim.Native.Nat.{ℕ, _+_}
 use native.Mathlib.Omega.{arith}
 use borrow.Author.Needs.{needs}
-use lib.ListN.{length, getD}
+use lib.ListN.{getD}
 use Rattle.lists.specs.Parts.{part}
 use Rattle.plan.specs.declared.FrameState.{FrameState}
 use Rattle.plan.specs.declared.Answer.{Answer}
-use Rattle.plan.specs.Places.{groupAt, carries, placeOf}
+use Rattle.plan.specs.Places.{carries, placeOf}
 use Rattle.plan.specs.States.{planIn}
 use Rattle.plan.specs.StateLaws.{ready-yes}
 use Rattle.slot.specs.Calls.{codeAnswer, codeArea}
 use Rattle.frame.specs.Steps.{codedAt, stateAfter}
 use Rattle.frame.specs.StepLaws.{coded-dummy}
-use Rattle.frame.specs.PlacedLaws.{group-few, table-begins, table-ends, table-between, slot-taken}
+use Rattle.frame.specs.PlacedLaws.{Between, between, slot-taken}
 use Rattle.frame.specs.SlotBySlot.{code-answer, code-area, pass-answer}
 use Rattle.frame_coder.specs.Needs.{Coding}
 use Rattle.frame_coder.proofs.code.code_place.Statement.{statement}
 use Rattle.frame_coder.proofs.code.code_place.Tie as tie
 
--- where the table of group g lies
-record Lies (g : ℕ) (ts ends : List ℕ) : Type 0 where
-  few : g + 1 < length ends
-  ends-long : length ends ≡ 9
-  begins : getD ends g 0 ≤ getD ends (g + 1) 0
-  within : getD ends (g + 1) 0 ≤ length ts
-
-module _ {s : FrameState} {ts ends source coded : List ℕ} (q : Coding s ts ends source coded) {g : ℕ} (e : g ≡ groupAt (planIn s) (s .slot)) where
-  table-lies : Lies g ts ends
-  table-lies =
-      let p = q .placed in
-      rw e (record { few = group-few s ts ends source p; ends-long = p .ends-long; begins = table-begins s ts ends source p; within = table-ends s ts ends source p })
-
+module _ {s : FrameState} {ts ends source coded : List ℕ} (q : Coding s ts ends source coded) {g : ℕ} (b : Between s ts ends g) where
   -- the slot call with that table
   called : carries (planIn s) (s .slot) ≡ true
       → {r : Answer} {left : List ℕ}
@@ -42,30 +30,29 @@ module _ {s : FrameState} {ts ends source coded : List ℕ} (q : Coding s ts end
       → (r .state ≡ stateAfter s) × (left ≡ codedAt s ts source coded)
   called c h k =
       let p = q .placed in
-      let t = ap (λ (n : ℕ). part (getD ends n 0) (getD ends (n + 1) 0) ts) e ∙ table-between s ts ends source p in
+      let t = b .is in
       let n = slot-taken s ts ends source p coded (q .coded-long) c in (
         ap (λ a. a .state) h ∙ ap (λ (u : List ℕ). codeAnswer s u source coded .state) t ∙ code-answer s ts source coded n c .1,
         k ∙ ap (λ (u : List ℕ). codeArea s u source coded) t ∙ code-area s ts source coded n c,
       )
 
--- the place's group and kind
-group-is : (c : tie.After-next-place) → let s = c .before .before .before .before .before .args .state in c .next-place .result .group ≡ groupAt (planIn s) (s .slot)
-unfolding placeOf
-group-is c = ap (λ r. r .group) (c .next-place .ensures)
-
+-- the place's kind, and its group's table
 kind-is : (c : tie.After-next-place) → let s = c .before .before .before .before .before .args .state in c .next-place .result .carries ≡ carries (planIn s) (s .slot)
 unfolding placeOf
 kind-is c = ap (λ r. r .carries) (c .next-place .ensures)
 
-lies : (c : tie.After-next-place) → let a = c .before .before .before .before .before .args in Lies (c .next-place .result .group) (a .tables .now) (a .ends .now)
-lies c = table-lies (c .before .before .before .before .before .pre) (group-is c)
+lies : (c : tie.After-next-place) → let a = c .before .before .before .before .before .args in Between (a .state) (a .tables .now) (a .ends .now) (c .next-place .result .group)
+unfolding placeOf
+lies c =
+    let s = c .before .before .before .before .before in
+    between (s .args .state) (s .args .tables .now) (s .args .ends .now) (s .args .source .now) (s .pre .placed) _ (ap (λ r. r .group) (c .next-place .ensures))
 
 returns : tie.Need-returns
 returns c =
     let w = c .before .before .before in
     let t = w .before .before .before .before .before in
     let p = t .before in
-    called (p .before .before .before .before .before .pre) (group-is p) (sym (kind-is p) ∙ t .if1 .taken) (w .code-slot .ensures .0) (w .code-slot .ensures .1)
+    called (p .before .before .before .before .before .pre) (lies p) (sym (kind-is p) ∙ t .if1 .taken) (w .code-slot .ensures .0) (w .code-slot .ensures .1)
 
 returns-2 : tie.Need-returns-2
 returns-2 c =

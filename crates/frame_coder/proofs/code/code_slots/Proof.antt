@@ -4,7 +4,6 @@ use mathlib.Core.List.{List}
 use Prim.Native.Nat.{ℕ, _+_, _*_, _-_, _<_, _≤_}
 use native.Mathlib.Omega.{arith}
 use borrow.Author.Needs.{needs}
-use borrow.Author.Tests.{eq-eqb}
 use borrow.Rule.Slice.PartMut.{putMid}
 use lib.ListN.{length, take}
 use Rattle.lists.specs.Parts.{part}
@@ -13,11 +12,12 @@ use Rattle.lists.specs.FillingLaws.{filling-none, filling-rest, filling-part, f
 use Rattle.plan.specs.declared.Plan.{Plan}
 use Rattle.plan.specs.declared.FrameState.{FrameState}
 use Rattle.plan.specs.declared.Answer.{Answer}
-use Rattle.plan.specs.States.{openNumber, opened}
+use Rattle.plan.specs.States.{opened}
 use Rattle.plan.specs.StateLaws.{open-sound}
 use Rattle.frame.specs.Steps.{codedAt, stateAfter}
 use Rattle.frame.specs.Frames.{stateBefore, slotIn, octetsOfSlot, sourceFrom, sourceIn, frameOf}
-use Rattle.frame.specs.FrameLaws.{sourceFrom-none, sourceFrom-more, sourceFrom-mono, register-none, state-more, state-ready, length-sourceIn, length-slotIn, length-frameOf, slot-at}
+use Rattle.frame.specs.FrameLaws.{sourceFrom-none, sourceFrom-more, sourceFrom-mono, first-state, state-more, length-slotIn, length-frameOf, slot-at}
+use Rattle.frame.specs.PlacedLaws.{placed-at}
 use Rattle.frame.specs.Needs.{Framed}
 use Rattle.frame_coder.specs.Needs.{Coding}
 use Rattle.frame_coder.proofs.code.code_slots.Statement.{statement}
@@ -34,16 +34,12 @@ module _ {p : Plan} {mask start : ℕ} {ts ends source found : List ℕ} (q : Fr
   abbrev goal : List ℕ
   goal = frameOf p ts mask start source found
 
-  -- no slot is coded yet, at the state that opening leaves
-  first-state : opened p mask start .state ≡ stateBefore p mask start 0
-  unfolding opened
-  first-state = rw (eq-eqb (openNumber p mask start) 0 (q .lent .opened), register-none p mask start)
-
+  -- no slot is coded yet
   none : {r : Answer} → r ≡ opened p mask start → Inv p mask start ts source found found (r .state) 0 0
   none e =
       record {
         few = omega arith;
-        state-is = ap (λ a. a .state) e ∙ first-state;
+        state-is = ap (λ a. a .state) e ∙ first-state p mask start (q .lent .opened);
         from-is = sym (sourceFrom-none p);
         filling = filling-none goal found (length-frameOf p ts mask start source found (q .lent .frame-long) ∙ sym (q .lent .frame-long));
       }
@@ -66,14 +62,7 @@ module _ {p : Plan} {mask start : ℕ} {ts ends source found : List ℕ} (q : Fr
     coding =
         rw (i .state-is, source-part, area-part)
         (record {
-          placed =
-              record {
-                ready = state-ready p mask start (q .lent .opened) k h;
-                tables = q .lent .tables;
-                ends-long = q .ends-long;
-                ends-are = q .ends-are;
-                source-long = length-sourceIn p source (q .lent .source-long) k h;
-              };
+          placed = placed-at p mask start ts ends source found q k h;
           coded-long = length-slotIn found k (q .lent .frame-long) h;
         })
 
