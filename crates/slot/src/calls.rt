@@ -18,7 +18,7 @@ pub fn rows_at(state: FrameState) -> usize
 }
 
 // The refusal of a state, or of a dummy at its next slot, or 0.
-fn data_number(state: FrameState) -> u8
+pub fn data_number(state: FrameState) -> u8
     ensures { λ r. ⌜ r ≡ dataNumber state ⌝ }
 {
     let number = plan::state_number(state);

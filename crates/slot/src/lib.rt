@@ -2,6 +2,7 @@
 mod calls;
 mod sizes;
 
+pub use calls::data_number;
 pub use calls::rows_at;
 pub use calls::slot_number;
 pub use sizes::covered_bits;
