@@ -1,3 +1,4 @@
 pub mod Statements
 pub mod DemandTwo
 pub mod DemandThree
+pub mod WorkedByHand

@@ -237,4 +237,4 @@ pub record Worked : Type 0 where
   -- 35903, 44879"
   pub first-8psk : table 3 (bitAt 3 (symbolsOf 3) (rightToLeft 3 3) 0) ≡ 0 ∷ 14960 ∷ 29920 ∷ []
   pub first-8psk-rate-2 : table 3 (bitAt 3 (symbolsOf 3) (rightToLeft 3 2) 0) ≡ 29920 ∷ 14960 ∷ 0 ∷ []
-  pub last-32apsk : table 5 (bitAt 5 (symbolsOf 5) (rightToLeft 5 11) 8975) ≡ 8975 ∷ 17951 ∷ 26927 ∷ 35903 ∷ 44879 ∷ []
+  pub last-32apsk : table 5 (bitAt 5 (symbolsOf 5) (rightToLeft 5 8) 8975) ≡ 8975 ∷ 17951 ∷ 26927 ∷ 35903 ∷ 44879 ∷ []
