@@ -101,7 +101,7 @@ lies : (c : tie.After-slot-octets Inv-loop μ-loop)
 lies c =
     let l = c .before .before .loop in
     let s = c .before .before .before .before .before .before .before .before .before in (
-      within (s .pre) (l .inv) (c .before .loop-test .taken) (c .slot-octets .ensures),
+      within (s .pre) (l .inv) (omega (arith, c .before .loop-test .taken)) (c .slot-octets .ensures),
       omega (arith, c .before .loop-test .taken, l .inv .filling .same, s .pre .lent .frame-long),
     )
 
@@ -110,7 +110,7 @@ code-place-requires c κs =
     let o = c .before .before in
     let l = o .before .before .loop in
     let s = o .before .before .before .before .before .before .before .before .before in
-    coding (s .pre) (l .inv) (o .before .loop-test .taken) (o .slot-octets .ensures)
+    coding (s .pre) (l .inv) (omega (arith, o .before .loop-test .taken)) (o .slot-octets .ensures)
 
 loop-again : tie.Need-loop-again Inv-loop μ-loop
 loop-again c =
@@ -118,7 +118,7 @@ loop-again c =
     let o = w .before .before .before in
     let l = o .before .before .loop in
     let s = o .before .before .before .before .before .before .before .before .before in
-    more (s .pre) (l .inv) (o .before .loop-test .taken) (o .slot-octets .ensures) (w .code-place .ensures .0) (w .code-place .ensures .1)
+    more (s .pre) (l .inv) (omega (arith, o .before .loop-test .taken)) (o .slot-octets .ensures) (w .code-place .ensures .0) (w .code-place .ensures .1)
 
 returns : tie.Need-returns Inv-loop μ-loop
 returns c =
