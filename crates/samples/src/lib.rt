@@ -4,6 +4,9 @@ mod rates;
 
 pub use octets::digest;
 pub use octets::fill;
+pub use rates::MASK;
+pub use rates::START;
 pub use rates::opened;
+pub use rates::plan_of;
 pub use rates::source_length;
 pub use rates::table_length;

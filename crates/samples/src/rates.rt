@@ -4,22 +4,26 @@ use plan::FrameState;
 use plan::Plan;
 
 // The dispersal register's settings.
-const MASK: u32 = 19088743;
+pub const MASK: u32 = 19088743;
 
-const START: u32 = 12246029;
+pub const START: u32 = 12246029;
 
 // The lengths of the published tables: a count for each row, and the addresses.
 const TABLE_LENGTHS: [usize; 12] = [0, 278, 333, 356, 402, 432, 461, 471, 465, 481, 510, 439];
 
-// The state at the first slot of a frame of 32APSK.
-pub fn opened(rate: u16) -> FrameState {
-    let plan = Plan {
+// A frame of 32APSK, which has no dummies.
+pub fn plan_of(rate: u16) -> Plan {
+    Plan {
         count: 1,
         modulation: [5, 0, 0, 0, 0, 0, 0, 0],
         rate: [rate, 0, 0, 0, 0, 0, 0, 0],
         slots: [120, 0, 0, 0, 0, 0, 0, 0],
-    };
-    let answer = plan::open(plan, MASK, START);
+    }
+}
+
+// The state at its first slot.
+pub fn opened(rate: u16) -> FrameState {
+    let answer = plan::open(plan_of(rate), MASK, START);
     answer.state
 }
 

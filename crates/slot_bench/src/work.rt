@@ -44,7 +44,7 @@ fn read_slots(
     sum
 }
 
-fn field(name: &[u8], value: u64) {
+pub fn field(name: &[u8], value: u64) {
     io::write_all(STDOUT_FILENO, name);
     io::print_decimal(STDOUT_FILENO, value);
 }

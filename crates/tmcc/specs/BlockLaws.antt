@@ -40,11 +40,11 @@ plain-bits m z = below-append 1 m _ z (bchBits-bits _)
 
 pub length-sent : (mask start : ℕ) (m : List ℕ) → length (sent mask start m) ≡ length m + 192
 unfolding sent
-length-sent mask start m = length-dispersed blockWidth mask start (plain m) ∙ length-plain m
+length-sent mask start m = length-dispersed blockWidth mask _ (plain m) ∙ length-plain m
 
 pub sent-bits : (mask start : ℕ) (m : List ℕ) → Bits (sent mask start m)
 unfolding sent
-sent-bits mask start m = dispersed-bits blockWidth mask start (plain m)
+sent-bits mask start m = dispersed-bits blockWidth mask _ (plain m)
 
 -- the run of a block: its TMCC and BCH bits, as sent
 pub length-run : (mask start : ℕ) (source : List ℕ) → length source ≡ sourceOctets → length (sent mask start (messageOf source)) ≡ runBits

@@ -4,8 +4,8 @@
 //!
 //!     reference vectors             the lines that the program slot_vectors must write
 //!     reference frames              lines of whole frames and TMCC blocks, coded, read back and read when damaged
-//!     reference bench CODED READ    the work of the program slot_bench
-//!     reference quick CODED READ    the same work by the loops of the proved code, for the benchmark alone
+//!     reference bench COUNTS        the work of the program slot_bench: slots coded and read, frames coded and read
+//!     reference quick COUNTS        the same work by the loops of the proved code, for the benchmark alone
 mod bch;
 mod bench;
 mod dispersal;
@@ -26,9 +26,11 @@ fn main() {
     match words[..] {
         ["vectors"] => vectors::print(),
         ["frames"] => frames::print(),
-        [way @ ("bench" | "quick"), coded, read] => {
-            bench::print(way == "quick", coded.parse().expect("a count"), read.parse().expect("a count"))
+        [way @ ("bench" | "quick"), coded, read, coded_frames, read_frames] => {
+            let [coded, read, coded_frames, read_frames] =
+                [coded, read, coded_frames, read_frames].map(|word| word.parse().expect("a count"));
+            bench::print(way == "quick", bench::Counts { coded, read, coded_frames, read_frames })
         }
-        _ => panic!("reference vectors, frames, bench CODED READ, or quick CODED READ"),
+        _ => panic!("reference vectors, frames, or bench or quick with four counts"),
     }
 }

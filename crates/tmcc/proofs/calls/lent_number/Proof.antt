@@ -8,13 +8,17 @@ use Rattle.tmcc.specs.Calls.{lentNumber}
 use Rattle.tmcc.proofs.calls.lent_number.Statement.{statement}
 use Rattle.tmcc.proofs.calls.lent_number.Tie as tie
 
+-- the test of the settings is the definition's
+tested : (c : tie.After-settings-ok) → let a = c .before .before .before .before .args in settingsOk 15 (a .mask) (a .start) ≡ c .settings-ok .result
+tested c = sym (c .settings-ok .ensures)
+
 returns : tie.Need-returns
 unfolding lentNumber
-returns c = rw (← c .before .settings-ok .ensures, not-true (c .before .settings-ok .result) (c .if1 .taken))
+returns c = rw (tested (c .before) ∙ not-true (c .before .settings-ok .result) (c .if1 .taken))
 
 -- the settings are accepted
 settings : (c : tie.Else1) → let a = c .before .before .before .before .before .args in settingsOk 15 (a .mask) (a .start) ≡ true
-settings c = sym (c .before .settings-ok .ensures) ∙ not-false (c .before .settings-ok .result) (c .if1 .left)
+settings c = tested (c .before) ∙ not-false (c .before .settings-ok .result) (c .if1 .left)
 
 returns-2 : tie.Need-returns-2
 unfolding lentNumber
