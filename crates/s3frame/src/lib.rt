@@ -1,0 +1,17 @@
+// The calls for C and Rust: numbers and slices in, the number of document 01 out.
+mod labels;
+mod numbers;
+mod packing;
+mod slots;
+mod tmcc_block;
+
+pub use labels::s3_labels;
+pub use labels::s3_slot_of_labels;
+pub use labels::s3_tmcc_labels;
+pub use labels::s3_tmcc_of_labels;
+pub use packing::s3_pack;
+pub use packing::s3_published_table;
+pub use packing::s3_unpack;
+pub use slots::s3_check_parity;
+pub use tmcc_block::s3_code_tmcc;
+pub use tmcc_block::s3_read_tmcc;
