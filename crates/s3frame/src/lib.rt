@@ -1,10 +1,14 @@
 // The calls for C and Rust: numbers and slices in, the number of document 01 out.
+mod frames;
 mod labels;
 mod numbers;
 mod packing;
+mod plans;
 mod slots;
 mod tmcc_block;
 
+pub use frames::s3_code_frame;
+pub use frames::s3_read_frame;
 pub use labels::s3_labels;
 pub use labels::s3_slot_of_labels;
 pub use labels::s3_tmcc_labels;

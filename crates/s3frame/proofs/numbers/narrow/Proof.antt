@@ -1,5 +1,4 @@
 -- `s3frame::narrow`: each arm is what `narrowed` picks there.
-use mathlib.Core.Path.{sym}
 use borrow.Author.Needs.{needs}
 use borrow.Author.Tests.{le-leb, lt-leb}
 use Rattle.s3frame.specs.Narrow.{narrowed}
