@@ -1,9 +1,9 @@
--- Rates and modulations as C hands them over.
+-- Rates, modulations and slot numbers as C hands them over.
 use Prim.Native.Nat.{ℕ}
 use lib.Dec.{leb}
 use Rattle.lists.specs.Choice.{pick}
 
--- a rate or a modulation as a 16-bit number. One above 255 is taken as 0: both are unknown, and "in a lone call,
--- modulation or rate unknown" is refused alike
+-- a number as one of 16 bits. One above 255 is taken as 255, and no call answers otherwise for it: as rate and modulation
+-- both are unknown, and as slot number both are past slot 120
 unfoldable pub narrowed : ℕ → ℕ
-narrowed x = pick (leb x 255) x 0
+narrowed x = pick (leb x 255) x 255

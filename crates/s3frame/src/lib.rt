@@ -3,8 +3,10 @@ mod frames;
 mod labels;
 mod numbers;
 mod packing;
+mod places;
 mod plans;
 mod slots;
+mod states;
 mod tmcc_block;
 
 pub use frames::s3_code_frame;
@@ -17,5 +19,7 @@ pub use packing::s3_pack;
 pub use packing::s3_published_table;
 pub use packing::s3_unpack;
 pub use slots::s3_check_parity;
+pub use states::s3_open;
+pub use states::s3_pass;
 pub use tmcc_block::s3_code_tmcc;
 pub use tmcc_block::s3_read_tmcc;

@@ -9,9 +9,9 @@ pub fn word(x: u8) -> u32
     x as u32
 }
 
-// A rate or a modulation.
+// A rate, a modulation or a slot number.
 pub fn narrow(x: u32) -> u16
     ensures { λ r. ⌜ r ≡ narrowed x ⌝ }
 {
-    if x <= 255 { x as u16 } else { 0 }
+    if x <= 255 { x as u16 } else { 255 }
 }
