@@ -1,16 +1,19 @@
 -- The calls at a place of a frame (document 01, "Plan and place" and "Refusal list"): the state they are handed as numbers,
 -- and `next`, the area of two numbers that takes the state's next slot and register.
+use mathlib.Core.Path.{_≡_}
 use mathlib.Core.List.{List, [], _∷_}
 use Prim.Native.Nat.{ℕ}
 use lib.Dec.{eqb}
 use lib.ListN.{length}
 use Rattle.lists.specs.Choice.{pick, andThen}
 use Rattle.refusal.specs.Numbers.{LENGTH}
+use Rattle.refusal.specs.Answers.{Answered}
 use Rattle.plan.specs.declared.Plan.{Plan}
 use Rattle.plan.specs.declared.FrameState.{FrameState}
 use Rattle.plan.specs.States.{openNumber, passNumber}
-use Rattle.slot.specs.Calls.{rowsAt, dataNumber, lentNumber}
-use Rattle.slot.specs.Reading.{receivedNumber}
+use Rattle.slot.specs.Slots.{slotOf}
+use Rattle.slot.specs.Reading.{receivedNumber, sourceOf}
+use Rattle.slot.specs.Calls.{rowsAt, dataNumber, lentNumber, nextState}
 
 -- "The frame state holds the plan, its register settings, the next slot number from 1 and the dispersal register"
 abbrev pub stateOf : Plan → ℕ → ℕ → ℕ → ℕ → FrameState
@@ -42,3 +45,14 @@ slotCall s t source coded next =
 unfoldable pub readCall : FrameState → List ℕ → List ℕ → List ℕ → List ℕ → ℕ
 readCall s t coded source next =
     andThen (slotCall s t source coded next) (receivedNumber (rowsAt s) t (s .mask) (s .register) coded)
+
+-- coding a slot: its number r, the area of the slot, and `next`
+pub record Coded (s : FrameState) (t source coded next : List ℕ) (r : ℕ) (area left : List ℕ) : Type 0 where
+  pub slot : Answered (slotCall s t source coded next) (slotOf (rowsAt s) t (s .mask) (s .register) source) coded r area
+  pub place : Answered (slotCall s t source coded next) (placed (nextState s)) next r left
+
+-- reading a slot: its number r, the area of header and data, and `next`, which "8, 9 and 10 move .. on one place with the
+-- register stepped as for a good slot"
+pub record Received (s : FrameState) (t coded source next : List ℕ) (r : ℕ) (area left : List ℕ) : Type 0 where
+  pub octets : Answered (readCall s t coded source next) (sourceOf (rowsAt s) (s .mask) (s .register) coded) source r area
+  pub place : left ≡ pick (eqb (slotCall s t source coded next) 0) (placed (nextState s)) next

@@ -38,7 +38,7 @@ and-no true b h = h
 and-no false b h = refl
 
 -- the same for a modulation and a rate, where it is so from one pair of which one is unknown to another
-pub both-given : (P : ℕ → ℕ → Type 0) (m rate : ℕ)
+both-given : (P : ℕ → ℕ → Type 0) (m rate : ℕ)
     → ((k s l t : ℕ) → (modulationOk k && rateOk s) ≡ false → (modulationOk l && rateOk t) ≡ false → P k s → P l t)
     → P (narrowed m) (narrowed rate)
     → P m rate

@@ -19,6 +19,8 @@ pub use packing::s3_pack;
 pub use packing::s3_published_table;
 pub use packing::s3_unpack;
 pub use slots::s3_check_parity;
+pub use slots::s3_code_slot;
+pub use slots::s3_read_slot;
 pub use states::s3_open;
 pub use states::s3_pass;
 pub use tmcc_block::s3_code_tmcc;
