@@ -1,0 +1,15 @@
+-- `s3frame::s3_slot_of_labels`: the call's answer, for modulation and rate as they were handed over.
+use borrow.Author.Needs.{needs}
+use Rattle.s3frame.specs.NarrowLaws.{back-given}
+use Rattle.s3frame.proofs.Worded.{worded}
+use Rattle.s3frame.proofs.labels.s3_slot_of_labels.Statement.{statement}
+use Rattle.s3frame.proofs.labels.s3_slot_of_labels.Tie as tie
+
+returns : tie.Need-returns
+returns c =
+    let p = c .before .before .before in
+    let n = p .before .before in
+    worded (c .word .ensures) (back-given _ _ _ _ _ _ (rw (n .before .narrow .ensures, n .narrow2 .ensures) at (p .slot-of-labels .ensures)))
+
+pub s3-slot-of-labels-spec : {M : Type 1} → statement M
+s3-slot-of-labels-spec = tie.close (tie.spec (λ c κs. search needs) (λ c κs. search needs) (λ c κs. search needs) (λ c κs. search needs) (λ c. search needs) returns)

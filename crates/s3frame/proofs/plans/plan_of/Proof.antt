@@ -1,0 +1,43 @@
+-- `s3frame::plan_of`: the length decides between the three columns and the plan of no groups.
+use mathlib.Core.Path.{_≡_, sym, _∙_}
+use mathlib.Core.Bool.{true}
+use Prim.Native.Nat.{ℕ, _≤_}
+use native.Mathlib.Omega.{arith}
+use borrow.Author.Needs.{needs}
+use borrow.Author.Tests.{leb-true}
+use lib.Dec.{leb}
+use Rattle.lists.specs.ChoiceLaws.{and-left, and-right}
+use Rattle.s3frame.specs.Plans.{lengthOk, planOf}
+use Rattle.s3frame.proofs.plans.plan_of.Statement.{statement}
+use Rattle.s3frame.proofs.plans.plan_of.Tie as tie
+
+short : (n : ℕ) → lengthOk n ≡ true → n ≤ 24
+unfolding lengthOk
+short n h = leb-true n 24 (and-left (leb n 24) _ (and-right (leb 1 n) _ h))
+
+cast-t9 : tie.Need-cast-t9
+cast-t9 c =
+    let b = c .before .before .before in
+    omega (arith, short _ (sym (b .before .length-ok .ensures) ∙ b .if1 .taken))
+
+returns : tie.Need-returns
+unfolding planOf
+returns c =
+    let b = c .before .before .before in
+    rw (← b .before .length-ok .ensures, b .if1 .taken, c .before .before .column-of .ensures, c .before .column-of2 .ensures, c .column-of3 .ensures)
+
+returns-2 : tie.Need-returns-2
+unfolding planOf
+returns-2 c = rw (← c .before .length-ok .ensures, c .if1 .left)
+
+pub plan-of-spec : {M : Type 1} → statement M
+plan-of-spec =
+    tie.close
+    (tie.spec
+    (λ c κs. search needs)
+    (λ c κs. search needs)
+    (λ c κs. search needs)
+    (λ c κs. search needs)
+    cast-t9
+    returns
+    returns-2)

@@ -1,0 +1,5 @@
+pub mod Calls
+pub mod CallLaws
+pub mod Narrow
+pub mod NarrowLaws
+pub mod Plans

@@ -1,0 +1,46 @@
+// Calls on a whole frame.
+ghost use mathlib.Core.Path.{_≡_};
+ghost use lib.Dec.{eqb};
+ghost use lib.ListN.{length};
+ghost use Rattle.lists.specs.Choice.{pick};
+ghost use Rattle.refusal.specs.Answers.{Answered};
+ghost use Rattle.frame.specs.Frames.{frameOf, frameNumber, answersOf, sourcesOf, readFrameNumber};
+ghost use Rattle.s3frame.specs.Plans.{planOf};
+use crate::numbers::word;
+use crate::plans::plan_of;
+
+// Codes a whole frame; a refusal leaves the frame as it was.
+#[no_mangle]
+pub extern "C" fn s3_code_frame(
+    plan: &[u8],
+    mask: u32,
+    start: u32,
+    tables: &[u16],
+    source: &[u8],
+    frame: &mut [u8],
+) -> u32
+    ensures { λ r. ⌜ Answered (frameNumber (planOf (now (plan .entry))) mask start (now (tables .entry)) (length (now (source .entry))) (length (now (frame .entry)))) (frameOf (planOf (now (plan .entry))) (now (tables .entry)) mask start (now (source .entry)) (now (frame .entry))) (now (frame .entry)) r (now (frame .exit)) ⌝ }
+{
+    let p = plan_of(plan);
+    word(frame_coder::code_frame(p, mask, start, tables, source, frame))
+}
+
+// Reads a whole frame: all header and data octets, and an answer octet for each slot; a refusal leaves both areas as they
+// were.
+#[no_mangle]
+pub extern "C" fn s3_read_frame(
+    plan: &[u8],
+    mask: u32,
+    start: u32,
+    tables: &[u16],
+    frame: &[u8],
+    source: &mut [u8],
+    answers: &mut [u8],
+) -> u32
+    ensures { λ r. ⌜ r ≡ readFrameNumber (planOf (now (plan .entry))) mask start (now (tables .entry)) (length (now (source .entry))) (length (now (frame .entry))) (length (now (answers .entry))) ⌝ }
+    ensures { λ r. ⌜ now (source .exit) ≡ pick (eqb r 0) (sourcesOf (planOf (now (plan .entry))) (now (tables .entry)) mask start (now (frame .entry)) (now (source .entry))) (now (source .entry)) ⌝ }
+    ensures { λ r. ⌜ now (answers .exit) ≡ pick (eqb r 0) (answersOf (planOf (now (plan .entry))) (now (tables .entry)) mask start (now (frame .entry))) (now (answers .entry)) ⌝ }
+{
+    let p = plan_of(plan);
+    word(frame_reader::read_frame(p, mask, start, tables, frame, source, answers))
+}

@@ -1,0 +1,34 @@
+// Calls on a TMCC block.
+ghost use Rattle.refusal.specs.Answers.{Answered};
+ghost use Rattle.tmcc.specs.Blocks.{blockOf};
+ghost use Rattle.tmcc.specs.Reading.{sourceOf};
+ghost use Rattle.tmcc.specs.Calls.{codeNumber, readNumber};
+use crate::numbers::word;
+
+// Codes the octets of a frame's TMCC bits into its block; a refusal leaves the block as it was.
+#[no_mangle]
+pub extern "C" fn s3_code_tmcc(
+    mask: u32,
+    start: u32,
+    table: &[u16],
+    source: &[u8],
+    block: &mut [u8],
+) -> u32
+    ensures { λ r. ⌜ Answered (codeNumber mask start (now (table .entry)) (now (source .entry)) (now (block .entry))) (blockOf (now (table .entry)) mask start (now (source .entry))) (now (block .entry)) r (now (block .exit)) ⌝ }
+{
+    word(tmcc::code_block(mask, start, table, source, block))
+}
+
+// Reads a block: the octets of its TMCC bits; a refusal leaves them as they were.
+#[no_mangle]
+pub extern "C" fn s3_read_tmcc(
+    mask: u32,
+    start: u32,
+    table: &[u16],
+    block: &[u8],
+    source: &mut [u8],
+) -> u32
+    ensures { λ r. ⌜ Answered (readNumber mask start (now (table .entry)) (now (block .entry)) (now (source .entry))) (sourceOf mask start (now (block .entry))) (now (source .entry)) r (now (source .exit)) ⌝ }
+{
+    word(tmcc::read_block(mask, start, table, block, source))
+}

@@ -1,0 +1,176 @@
+/* ISDB-S3 slot framer and its reader: slots, whole frames, TMCC blocks, symbols as labels, TS packets.
+ *
+ * Every call answers a number: 0 where it is accepted, else the refusal of the first test that failed. A call tests in the
+ * order in which its numbers are listed. Unless a call says otherwise, a refusal leaves every area as it was found.
+ *
+ * An area is a pointer and its length in elements. A pointer is never null, also where the length is 0, and an area that is
+ * written overlaps no other area of the call. The calls keep no state and need no more than 256 KiB of stack. */
+#ifndef S3FRAME_H
+#define S3FRAME_H
+
+#include <stddef.h>
+#include <stdint.h>
+
+#ifdef __cplusplus
+extern "C" {
+#endif
+
+/* The numbers. */
+#define S3_ACCEPTED 0u
+#define S3_PLAN 1u      /* the plan breaks a rule; in a call without a plan, an unknown modulation or rate */
+#define S3_DUMMY 2u     /* a dummy where data was asked for, or a data slot at a pass */
+#define S3_FULL 3u      /* slot 120 is past */
+#define S3_LENGTH 4u    /* an area isn't exactly its length */
+#define S3_TABLE 5u     /* a parity table breaks its form */
+#define S3_REGISTER 6u  /* start or register is 0 or too wide; mask is too wide or lacks the top bit */
+#define S3_SYNC 7u      /* a TS packet doesn't begin 0x47 */
+#define S3_PARITY 8u    /* a received LDPC parity bit is wrong */
+#define S3_BCH 9u       /* the received BCH bits are wrong */
+#define S3_STUFF 10u    /* the received stuff bits are not all ones */
+#define S3_TAIL 11u     /* one of the last two TMCC bits is 1 */
+#define S3_LABEL 12u    /* a label is 2^modulation or more */
+
+/* Lengths of areas. */
+#define S3_NEXT 2u                /* numbers of `next`: next slot, register */
+#define S3_SLOTS 120u             /* slots of a frame, and answer octets of s3_read_frame */
+#define S3_SLOT_OCTETS 5610u      /* octets of a coded slot */
+#define S3_FRAME_OCTETS 673200u   /* octets of a coded frame: slot s begins at 5,610 * (s - 1) */
+#define S3_HEADER_OCTETS 22u      /* octets of a slot's header */
+#define S3_TMCC_OCTETS 1178u      /* octets of a frame's 9,422 TMCC bits and two zeros */
+#define S3_BLOCK_OCTETS 3960u     /* octets of a coded TMCC block */
+#define S3_BLOCK_LABELS 31680u    /* labels of a TMCC block */
+
+/* Rates 1 to 11 are 1/3, 2/5, 1/2, 3/5, 2/3, 3/4, 7/9, 4/5, 5/6, 7/8, 9/10.
+ * P, the packets of a slot, are 10, 12, 15, 18, 20, 22, 23, 24, 25, 26, 27.
+ * T, the length of the published parity table, is 278, 333, 356, 402, 432, 461, 471, 465, 481, 510, 439.
+ * Modulations 1 to 5 are pi/2-shift BPSK, QPSK, 8PSK, 16APSK, 32APSK: bits in a symbol.
+ *
+ * plan: three octets for each of 1 to 8 groups: modulation, rate and slots. Any other plan_length is refused 1. The slots
+ * of a group are a positive multiple of 5, those of all groups add to 120, and groups fall strictly: higher modulation
+ * first, then higher rate. Of a group's n slots the first n * modulation / 5 carry data; the others are dummies.
+ *
+ * mask, start: the settings of the 25-bit dispersal register; a TMCC block has 15 bits. Mask has the top bit.
+ *
+ * slot, register: the place of a slot call: the next slot from 1, and the dispersal register there. Both come from `next`.
+ *
+ * table: for each row of the rate's code a count from 1 to 16 and then that many different addresses. In a whole-frame call
+ * the groups' tables follow each other in group order. A wrong table_length is refused 5.
+ *
+ * source: the 22 header octets of a slot, then its 187 * P data octets. In a whole-frame call the data slots lie end to end.
+ */
+
+/* Opens a frame.
+ *   next  2 numbers: slot 1 and the register at its start; two zeros where the call refuses 1 or 6
+ * Numbers: 1, 6, 4. Where next has another length it is left as found. */
+uint32_t s3_open(const uint8_t *plan, size_t plan_length, uint32_t mask, uint32_t start, uint32_t *next,
+                 size_t next_length);
+
+/* Passes a dummy.
+ *   next  2 numbers: the next slot, and the register as handed in
+ * Numbers: 1 (also slot 0), 6, 3, 2 (at a data slot), 4. */
+uint32_t s3_pass(const uint8_t *plan, size_t plan_length, uint32_t mask, uint32_t start, uint32_t slot,
+                 uint32_t register_, uint32_t *next, size_t next_length);
+
+/* Codes one data slot.
+ *   source  22 + 187 * P octets
+ *   coded   5,610 octets: the slot
+ *   next    2 numbers: the next slot, and the register there
+ * Numbers: 1 (also slot 0), 6, 3, 2 (at a dummy), 4, 5. */
+uint32_t s3_code_slot(const uint8_t *plan, size_t plan_length, uint32_t mask, uint32_t start, uint32_t slot,
+                      uint32_t register_, const uint16_t *table, size_t table_length, const uint8_t *source,
+                      size_t source_length, uint8_t *coded, size_t coded_length, uint32_t *next, size_t next_length);
+
+/* Reads one data slot.
+ *   coded   5,610 octets
+ *   source  22 + 187 * P octets: header and data
+ *   next    2 numbers: the next slot, and the register there; written with 0, and with 8, 9 and 10 too
+ * Numbers: 1 (also slot 0), 6, 3, 2 (at a dummy), 4, 5, 8, 9, 10. */
+uint32_t s3_read_slot(const uint8_t *plan, size_t plan_length, uint32_t mask, uint32_t start, uint32_t slot,
+                      uint32_t register_, const uint16_t *table, size_t table_length, const uint8_t *coded,
+                      size_t coded_length, uint8_t *source, size_t source_length, uint32_t *next, size_t next_length);
+
+/* Checks the LDPC parity of a slot, whatever its dispersal.
+ *   coded  5,610 octets
+ * Numbers: 1, 4, 5, 8. Nothing is written. */
+uint32_t s3_check_parity(uint32_t rate, const uint16_t *table, size_t table_length, const uint8_t *coded,
+                         size_t coded_length);
+
+/* Codes a whole frame.
+ *   source  the octets of all data slots, end to end
+ *   frame   673,200 octets: each data slot in its part; the dummies' parts are left as found
+ * Numbers: 1, 6, 4, 5. */
+uint32_t s3_code_frame(const uint8_t *plan, size_t plan_length, uint32_t mask, uint32_t start, const uint16_t *tables,
+                       size_t tables_length, const uint8_t *source, size_t source_length, uint8_t *frame,
+                       size_t frame_length);
+
+/* Reads a whole frame.
+ *   frame    673,200 octets
+ *   source   the octets of all data slots, end to end; those of a slot that is not read with 0 are left as found
+ *   answers  120 octets, one for each slot: 0, 2 for a dummy, or 8, 9, 10
+ * Numbers: 1, 6, 4, 5. */
+uint32_t s3_read_frame(const uint8_t *plan, size_t plan_length, uint32_t mask, uint32_t start, const uint16_t *tables,
+                       size_t tables_length, const uint8_t *frame, size_t frame_length, uint8_t *source,
+                       size_t source_length, uint8_t *answers, size_t answers_length);
+
+/* Codes a TMCC block, under a parity table of rate 3.
+ *   source  1,178 octets: 9,422 bits, and two zeros
+ *   block   3,960 octets
+ * Numbers: 6, 4, 5, 11. */
+uint32_t s3_code_tmcc(uint32_t mask, uint32_t start, const uint16_t *table, size_t table_length, const uint8_t *source,
+                      size_t source_length, uint8_t *block, size_t block_length);
+
+/* Reads a TMCC block, under a parity table of rate 3.
+ *   block   3,960 octets
+ *   source  1,178 octets: 9,422 bits, and two zeros
+ * Numbers: 6, 4, 5, 8, 9. */
+uint32_t s3_read_tmcc(uint32_t mask, uint32_t start, const uint16_t *table, size_t table_length, const uint8_t *block,
+                      size_t block_length, uint8_t *source, size_t source_length);
+
+/* The labels of a slot, one octet each.
+ *   coded   5,610 octets
+ *   labels  44,880 / modulation octets
+ * Numbers: 1, 4. */
+uint32_t s3_labels(uint32_t modulation, uint32_t rate, const uint8_t *coded, size_t coded_length, uint8_t *labels,
+                   size_t labels_length);
+
+/* The slot of labels.
+ *   labels  44,880 / modulation octets, each below 2^modulation
+ *   coded   5,610 octets
+ * Numbers: 1, 4, 12. */
+uint32_t s3_slot_of_labels(uint32_t modulation, uint32_t rate, const uint8_t *labels, size_t labels_length,
+                           uint8_t *coded, size_t coded_length);
+
+/* The labels of a TMCC block, one octet each.
+ *   block   3,960 octets
+ *   labels  31,680 octets
+ * Numbers: 4. */
+uint32_t s3_tmcc_labels(const uint8_t *block, size_t block_length, uint8_t *labels, size_t labels_length);
+
+/* The TMCC block of labels.
+ *   labels  31,680 octets, each 0 or 1
+ *   block   3,960 octets
+ * Numbers: 4, 12. */
+uint32_t s3_tmcc_of_labels(const uint8_t *labels, size_t labels_length, uint8_t *block, size_t block_length);
+
+/* Packs the TS packets of one slot.
+ *   packets  188 * P octets, each packet beginning 0x47
+ *   octets   187 * P octets: the packets without it
+ * Numbers: 1, 4, 7. */
+uint32_t s3_pack(uint32_t rate, const uint8_t *packets, size_t packets_length, uint8_t *octets, size_t octets_length);
+
+/* Unpacks the data octets of one slot.
+ *   octets   187 * P octets
+ *   packets  188 * P octets: the packets, 0x47 put back
+ * Numbers: 1, 4. */
+uint32_t s3_unpack(uint32_t rate, const uint8_t *octets, size_t octets_length, uint8_t *packets, size_t packets_length);
+
+/* Copies the published parity table of a rate.
+ *   table  T numbers
+ * Numbers: 1, 4. */
+uint32_t s3_published_table(uint32_t rate, uint16_t *table, size_t table_length);
+
+#ifdef __cplusplus
+}
+#endif
+
+#endif

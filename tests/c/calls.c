@@ -1,0 +1,394 @@
+/* Calls of every kind through include/s3frame.h, with what each must answer and leave (document 01). */
+#include "s3frame.h"
+
+#include <stdio.h>
+#include <string.h>
+
+#define COUNT(a) (sizeof(a) / sizeof((a)[0]))
+#define FOUND 0xA5 /* what areas hold before a call */
+
+static unsigned passed, failed;
+
+static void expect(int holds, const char *what, int line)
+{
+    if (holds) {
+        passed++;
+    } else {
+        failed++;
+        printf("line %d: %s\n", line, what);
+    }
+}
+
+#define EXPECT(test) expect((test), #test, __LINE__)
+
+/* The settings of document 01's register: mask 2^24 and start 1; 2^14 for a TMCC block. */
+static const uint32_t mask = 1u << 24, start = 1, block_mask = 1u << 14;
+
+static const uint8_t mixed[] = {4, 7, 115, 2, 3, 5}; /* 92 data slots, 23 dummies, 2 data slots, 3 dummies */
+static const uint8_t lowest[] = {5, 1, 120};
+
+static const size_t table_lengths[] = {0, 278, 333, 356, 402, 432, 461, 471, 465, 481, 510, 439};
+static const size_t packets[] = {0, 10, 12, 15, 18, 20, 22, 23, 24, 25, 26, 27};
+
+static uint16_t table1[278], table3[356], tables[471 + 356];
+
+enum { SOURCE_1 = 22 + 187 * 10, SOURCE_3 = 22 + 187 * 15, SOURCE_7 = 22 + 187 * 23 };
+enum { MIXED_SOURCE = 92 * SOURCE_7 + 2 * SOURCE_3 };
+
+static uint32_t seed = 1;
+
+static void fill(uint8_t *area, size_t length)
+{
+    for (size_t i = 0; i < length; i++) {
+        seed = seed * 1664525u + 1013904223u;
+        area[i] = (uint8_t)(seed >> 24);
+    }
+}
+
+static int untouched(const uint8_t *area, size_t length)
+{
+    for (size_t i = 0; i < length; i++) {
+        if (area[i] != FOUND) return 0;
+    }
+    return 1;
+}
+
+static int at(const uint32_t *next, uint32_t slot, uint32_t held)
+{
+    return next[0] == slot && next[1] == held;
+}
+
+static unsigned bit(const uint8_t *area, size_t i)
+{
+    return area[i / 8] >> (7 - i % 8) & 1u;
+}
+
+static void flip(uint8_t *area, size_t i)
+{
+    area[i / 8] ^= (uint8_t)(1u << (7 - i % 8));
+}
+
+static void published(void)
+{
+    static uint16_t area[512];
+    for (uint32_t rate = 1; rate <= 11; rate++) {
+        EXPECT(s3_published_table(rate, area, table_lengths[rate]) == S3_ACCEPTED);
+        EXPECT(area[0] >= 1 && area[0] <= 16);
+    }
+    area[0] = 77;
+    EXPECT(s3_published_table(0, area, 278) == S3_PLAN);
+    EXPECT(s3_published_table(12, area, 278) == S3_PLAN);
+    EXPECT(s3_published_table(65537, area, 278) == S3_PLAN); /* not the rate of its low 16 bits */
+    EXPECT(s3_published_table(1, area, 277) == S3_LENGTH);
+    EXPECT(area[0] == 77);
+    EXPECT(s3_published_table(1, table1, COUNT(table1)) == S3_ACCEPTED);
+    EXPECT(s3_published_table(3, table3, COUNT(table3)) == S3_ACCEPTED);
+    EXPECT(s3_published_table(7, tables, 471) == S3_ACCEPTED);
+    memcpy(tables + 471, table3, sizeof table3);
+}
+
+static void opening(void)
+{
+    static const uint8_t short_plan[] = {4, 7, 115}, no_fives[] = {4, 7, 116, 2, 3, 4}, rising[] = {2, 3, 5, 4, 7, 115};
+    static const uint8_t rate_12[] = {5, 12, 120}, nine[27] = {5, 11, 5};
+    uint32_t next[3] = {7, 8, 9};
+    EXPECT(s3_open(mixed, sizeof mixed, mask, start, next, 2) == S3_ACCEPTED && at(next, 1, 1));
+    EXPECT(s3_open(mixed, sizeof mixed, mask, 5, next, 2) == S3_ACCEPTED && at(next, 1, 5));
+    EXPECT(s3_open(short_plan, sizeof short_plan, mask, start, next, 2) == S3_PLAN && at(next, 0, 0));
+    EXPECT(s3_open(no_fives, sizeof no_fives, mask, start, next, 2) == S3_PLAN);
+    EXPECT(s3_open(rising, sizeof rising, mask, start, next, 2) == S3_PLAN);
+    EXPECT(s3_open(rate_12, sizeof rate_12, mask, start, next, 2) == S3_PLAN);
+    EXPECT(s3_open(nine, sizeof nine, mask, start, next, 2) == S3_PLAN);
+    EXPECT(s3_open(mixed, 0, mask, start, next, 2) == S3_PLAN);
+    EXPECT(s3_open(mixed, 5, mask, start, next, 2) == S3_PLAN);
+    next[0] = next[1] = 7;
+    EXPECT(s3_open(mixed, sizeof mixed, 1u << 25, start, next, 2) == S3_REGISTER && at(next, 0, 0));
+    EXPECT(s3_open(mixed, sizeof mixed, 1, start, next, 2) == S3_REGISTER);
+    EXPECT(s3_open(mixed, sizeof mixed, mask, 0, next, 2) == S3_REGISTER);
+    next[0] = 7;
+    EXPECT(s3_open(mixed, sizeof mixed, mask, start, next, 1) == S3_LENGTH && at(next, 7, 0));
+    EXPECT(s3_open(mixed, 5, mask, start, next, 3) == S3_PLAN && at(next, 7, 0) && next[2] == 9);
+}
+
+static void passing(void)
+{
+    uint32_t next[2] = {7, 8};
+    EXPECT(s3_pass(mixed, sizeof mixed, mask, start, 1, 5, next, 2) == S3_DUMMY);
+    EXPECT(s3_pass(mixed, sizeof mixed, mask, start, 121, 5, next, 2) == S3_FULL);
+    EXPECT(s3_pass(mixed, sizeof mixed, mask, start, 256 + 93, 5, next, 2) == S3_FULL);
+    EXPECT(s3_pass(mixed, sizeof mixed, mask, start, 65536 + 93, 5, next, 2) == S3_FULL);
+    EXPECT(s3_pass(mixed, sizeof mixed, mask, start, 121, 0, next, 2) == S3_REGISTER);
+    EXPECT(s3_pass(mixed, sizeof mixed, mask, start, 93, 1u << 25, next, 2) == S3_REGISTER);
+    EXPECT(s3_pass(mixed, sizeof mixed, mask, start, 0, 5, next, 2) == S3_PLAN);
+    EXPECT(s3_pass(mixed, 4, mask, start, 121, 0, next, 1) == S3_PLAN);
+    EXPECT(s3_pass(mixed, sizeof mixed, mask, start, 1, 5, next, 1) == S3_DUMMY);
+    EXPECT(s3_pass(mixed, sizeof mixed, mask, start, 93, 5, next, 1) == S3_LENGTH && at(next, 7, 8));
+    EXPECT(s3_pass(mixed, sizeof mixed, mask, start, 93, 5, next, 2) == S3_ACCEPTED && at(next, 94, 5));
+    EXPECT(s3_pass(mixed, sizeof mixed, mask, start, 120, 6, next, 2) == S3_ACCEPTED && at(next, 121, 6));
+}
+
+/* Makes the parity of a slot of rate 1 anew, after document 01, "Checks in the slot". */
+static void new_parity(uint8_t *slot)
+{
+    enum { ROWS = 41, STEP = 120 - ROWS, POSITIONS = 374 * STEP, COVERED = 374 * ROWS };
+    static uint8_t sums[POSITIONS];
+    const uint16_t *row = table1;
+    memset(sums, 0, sizeof sums);
+    for (size_t r = 0; r < ROWS; r++, row += 1 + row[0]) {
+        for (size_t m = 0; m < 374; m++) {
+            for (size_t k = 1; k <= row[0]; k++) sums[(row[k] + m * STEP) % POSITIONS] ^= (uint8_t)bit(slot, 374 * r + m);
+        }
+    }
+    for (size_t i = 0; i < POSITIONS; i++) {
+        if (i > 0) sums[i] ^= sums[i - 1];
+        if (bit(slot, COVERED + i) != sums[i]) flip(slot, COVERED + i);
+    }
+}
+
+static uint8_t source1[SOURCE_1], slot1[S3_SLOT_OCTETS];
+
+static void coding_a_slot(void)
+{
+    static uint16_t bad[COUNT(table1)];
+    uint32_t next[2] = {7, 8};
+    const size_t plan = sizeof lowest, table = COUNT(table1);
+    memcpy(bad, table1, sizeof bad);
+    bad[1] = 374 * 79;
+    fill(source1, sizeof source1);
+    memset(slot1, FOUND, sizeof slot1);
+#define CODE(plan, slot, held, table, length, octets, room, next_length) \
+    s3_code_slot(lowest, plan, mask, start, slot, held, table, length, source1, octets, slot1, room, next, next_length)
+    EXPECT(CODE(2, 1, 1, table1, table, SOURCE_1, 5610, 2) == S3_PLAN);
+    EXPECT(CODE(plan, 0, 1, table1, table, SOURCE_1, 5610, 2) == S3_PLAN);
+    EXPECT(CODE(plan, 121, 0, table1, table, SOURCE_1, 5610, 2) == S3_REGISTER);
+    EXPECT(CODE(plan, 121, 1, table1, table, SOURCE_1, 5610, 2) == S3_FULL);
+    EXPECT(CODE(plan, 65537, 1, table1, table, SOURCE_1, 5610, 1) == S3_FULL);
+    EXPECT(CODE(plan, 1, 1, bad, table, SOURCE_1, 5609, 2) == S3_LENGTH);
+    EXPECT(CODE(plan, 1, 1, bad, table, SOURCE_1 - 1, 5610, 2) == S3_LENGTH);
+    EXPECT(CODE(plan, 1, 1, bad, table, SOURCE_1, 5610, 1) == S3_LENGTH);
+    EXPECT(CODE(plan, 1, 1, bad, table, SOURCE_1, 5610, 2) == S3_TABLE);
+    EXPECT(CODE(plan, 1, 1, table1, table - 1, SOURCE_1, 5610, 2) == S3_TABLE);
+    EXPECT(s3_code_slot(mixed, sizeof mixed, mask, start, 93, 1, table1, table, source1, SOURCE_1, slot1, 5610, next, 1) == S3_DUMMY);
+    EXPECT(untouched(slot1, sizeof slot1) && at(next, 7, 8));
+    EXPECT(CODE(plan, 120, 1, table1, table, SOURCE_1, 5610, 2) == S3_ACCEPTED && at(next, 121, 512));
+    EXPECT(CODE(plan, 1, 1, table1, table, SOURCE_1, 5610, 2) == S3_ACCEPTED && at(next, 2, 512));
+    EXPECT(!untouched(slot1, sizeof slot1));
+}
+
+static void reading_a_slot(void)
+{
+    static uint8_t back[SOURCE_1], damaged[S3_SLOT_OCTETS];
+    uint32_t next[2] = {7, 8};
+    const size_t plan = sizeof lowest, table = COUNT(table1);
+    memset(back, FOUND, sizeof back);
+#define READ(slot, held, from, octets, next_length) \
+    s3_read_slot(lowest, plan, mask, start, slot, held, table1, table, from, 5610, back, octets, next, next_length)
+    EXPECT(READ(0, 1, slot1, SOURCE_1, 2) == S3_PLAN);
+    EXPECT(READ(1, 0, slot1, SOURCE_1, 2) == S3_REGISTER);
+    EXPECT(READ(121, 1, slot1, SOURCE_1, 2) == S3_FULL);
+    EXPECT(READ(1, 1, slot1, SOURCE_1 - 1, 2) == S3_LENGTH);
+    EXPECT(READ(1, 1, slot1, SOURCE_1, 0) == S3_LENGTH);
+    EXPECT(at(next, 7, 8));
+    memcpy(damaged, slot1, sizeof damaged);
+    flip(damaged, 44879);
+    EXPECT(READ(1, 1, damaged, SOURCE_1, 2) == S3_PARITY && at(next, 2, 512));
+    memcpy(damaged, slot1, sizeof damaged);
+    flip(damaged, 176);
+    new_parity(damaged);
+    EXPECT(READ(2, 1, damaged, SOURCE_1, 2) == S3_BCH && at(next, 3, 512));
+    memcpy(damaged, slot1, sizeof damaged);
+    flip(damaged, 374 * 41 - 1);
+    new_parity(damaged);
+    EXPECT(READ(3, 1, damaged, SOURCE_1, 2) == S3_STUFF && at(next, 4, 512));
+    EXPECT(untouched(back, sizeof back));
+    EXPECT(READ(1, 1, slot1, SOURCE_1, 2) == S3_ACCEPTED && at(next, 2, 512));
+    EXPECT(memcmp(back, source1, sizeof back) == 0);
+    EXPECT(s3_check_parity(1, table1, table, slot1, sizeof slot1) == S3_ACCEPTED);
+    EXPECT(s3_check_parity(1, table1, table, damaged, sizeof damaged) == S3_ACCEPTED);
+    flip(damaged, 44879);
+    EXPECT(s3_check_parity(1, table1, table, damaged, sizeof damaged) == S3_PARITY);
+    EXPECT(s3_check_parity(1, table1, table - 1, slot1, sizeof slot1) == S3_TABLE);
+    EXPECT(s3_check_parity(1, table1, table - 1, slot1, 5609) == S3_LENGTH);
+    EXPECT(s3_check_parity(12, table1, table, slot1, 5609) == S3_PLAN);
+    EXPECT(s3_check_parity(65537, table1, table, slot1, sizeof slot1) == S3_PLAN);
+}
+
+static uint8_t sources[MIXED_SOURCE], frame[S3_FRAME_OCTETS];
+
+/* The frame must be what the slot-by-slot calls make, dummies' parts as found. */
+static void coding_a_frame(void)
+{
+    static uint8_t slot[S3_SLOT_OCTETS];
+    uint32_t next[2];
+    size_t from = 0;
+    unsigned same = 0, left = 0;
+    fill(sources, sizeof sources);
+    memset(frame, FOUND, sizeof frame);
+#define CODE_FRAME(plan, mask, tables_length, octets, room) \
+    s3_code_frame(mixed, plan, mask, start, tables, tables_length, sources, octets, frame, room)
+    EXPECT(CODE_FRAME(5, 0, COUNT(tables), MIXED_SOURCE, S3_FRAME_OCTETS) == S3_PLAN);
+    EXPECT(CODE_FRAME(6, 0, COUNT(tables), MIXED_SOURCE - 1, S3_FRAME_OCTETS) == S3_REGISTER);
+    EXPECT(CODE_FRAME(6, mask, COUNT(tables) - 1, MIXED_SOURCE - 1, S3_FRAME_OCTETS) == S3_LENGTH);
+    EXPECT(CODE_FRAME(6, mask, COUNT(tables) - 1, MIXED_SOURCE, S3_FRAME_OCTETS - 1) == S3_LENGTH);
+    EXPECT(CODE_FRAME(6, mask, COUNT(tables) - 1, MIXED_SOURCE, S3_FRAME_OCTETS) == S3_TABLE);
+    EXPECT(untouched(frame, sizeof frame));
+    EXPECT(CODE_FRAME(6, mask, COUNT(tables), MIXED_SOURCE, S3_FRAME_OCTETS) == S3_ACCEPTED);
+    EXPECT(s3_open(mixed, sizeof mixed, mask, start, next, 2) == S3_ACCEPTED);
+    for (uint32_t s = 1; s <= S3_SLOTS; s++) {
+        const uint8_t *part = frame + S3_SLOT_OCTETS * (s - 1);
+        const int high = s <= 115, data = s <= 92 || s == 116 || s == 117;
+        const size_t octets = high ? SOURCE_7 : SOURCE_3;
+        if (!data) {
+            left += s3_pass(mixed, sizeof mixed, mask, start, s, next[1], next, 2) == S3_ACCEPTED && untouched(part, 5610);
+            continue;
+        }
+        same += s3_code_slot(mixed, sizeof mixed, mask, start, s, next[1], high ? tables : table3, high ? 471 : 356,
+                             sources + from, octets, slot, sizeof slot, next, 2) == S3_ACCEPTED
+            && next[0] == s + 1 && memcmp(slot, part, sizeof slot) == 0;
+        from += octets;
+    }
+    EXPECT(same == 94);
+    EXPECT(left == 26);
+    EXPECT(from == MIXED_SOURCE);
+}
+
+static void reading_a_frame(void)
+{
+    static uint8_t back[MIXED_SOURCE], answers[S3_SLOTS];
+    unsigned right = 0;
+    memset(back, FOUND, sizeof back);
+    memset(answers, FOUND, sizeof answers);
+#define READ_FRAME(tables_length, room, count) \
+    s3_read_frame(mixed, sizeof mixed, mask, start, tables, tables_length, frame, sizeof frame, back, room, answers, count)
+    EXPECT(READ_FRAME(COUNT(tables) - 1, MIXED_SOURCE, 119) == S3_LENGTH);
+    EXPECT(READ_FRAME(COUNT(tables) - 1, MIXED_SOURCE - 1, 120) == S3_LENGTH);
+    EXPECT(READ_FRAME(COUNT(tables) - 1, MIXED_SOURCE, 120) == S3_TABLE);
+    EXPECT(untouched(back, sizeof back) && untouched(answers, sizeof answers));
+    flip(frame, 8 * S3_SLOT_OCTETS * 3 - 1);
+    EXPECT(READ_FRAME(COUNT(tables), MIXED_SOURCE, 120) == S3_ACCEPTED);
+    for (uint32_t s = 1; s <= S3_SLOTS; s++) {
+        const int data = s <= 92 || s == 116 || s == 117;
+        right += answers[s - 1] == (s == 3 ? S3_PARITY : data ? S3_ACCEPTED : S3_DUMMY);
+    }
+    EXPECT(right == S3_SLOTS);
+    EXPECT(untouched(back + 2 * SOURCE_7, SOURCE_7));
+    memcpy(back + 2 * SOURCE_7, sources + 2 * SOURCE_7, SOURCE_7);
+    EXPECT(memcmp(back, sources, sizeof back) == 0);
+}
+
+static uint8_t block[S3_BLOCK_OCTETS];
+
+static void tmcc(void)
+{
+    static uint8_t source[S3_TMCC_OCTETS], back[S3_TMCC_OCTETS];
+    const size_t table = COUNT(table3);
+    fill(source, sizeof source);
+    source[S3_TMCC_OCTETS - 1] |= 3;
+    memset(block, FOUND, sizeof block);
+    memset(back, FOUND, sizeof back);
+#define CODE_TMCC(mask, length, octets, room) s3_code_tmcc(mask, start, table3, length, source, octets, block, room)
+    EXPECT(CODE_TMCC(mask, table - 1, S3_TMCC_OCTETS - 1, S3_BLOCK_OCTETS) == S3_REGISTER);
+    EXPECT(CODE_TMCC(block_mask, table - 1, S3_TMCC_OCTETS - 1, S3_BLOCK_OCTETS) == S3_LENGTH);
+    EXPECT(CODE_TMCC(block_mask, table - 1, S3_TMCC_OCTETS, S3_BLOCK_OCTETS - 1) == S3_LENGTH);
+    EXPECT(CODE_TMCC(block_mask, table - 1, S3_TMCC_OCTETS, S3_BLOCK_OCTETS) == S3_TABLE);
+    EXPECT(CODE_TMCC(block_mask, table, S3_TMCC_OCTETS, S3_BLOCK_OCTETS) == S3_TAIL);
+    EXPECT(untouched(block, sizeof block));
+    source[S3_TMCC_OCTETS - 1] &= 0xFC;
+    EXPECT(CODE_TMCC(block_mask, table, S3_TMCC_OCTETS, S3_BLOCK_OCTETS) == S3_ACCEPTED);
+#define READ_TMCC(start, room) s3_read_tmcc(block_mask, start, table3, table, block, sizeof block, back, room)
+    EXPECT(READ_TMCC(0, S3_TMCC_OCTETS) == S3_REGISTER);
+    EXPECT(READ_TMCC(1, S3_TMCC_OCTETS - 1) == S3_LENGTH);
+    EXPECT(READ_TMCC(2, S3_TMCC_OCTETS) == S3_BCH); /* another start: the parity is right all the same */
+    flip(block, 31679);
+    EXPECT(READ_TMCC(1, S3_TMCC_OCTETS) == S3_PARITY);
+    EXPECT(untouched(back, sizeof back));
+    flip(block, 31679);
+    EXPECT(READ_TMCC(1, S3_TMCC_OCTETS) == S3_ACCEPTED);
+    EXPECT(memcmp(back, source, sizeof back) == 0);
+}
+
+static void symbols(void)
+{
+    static uint8_t labels[44880], back[S3_SLOT_OCTETS];
+    for (uint32_t modulation = 1; modulation <= 5; modulation++) {
+        const size_t count = 44880 / modulation;
+        EXPECT(s3_labels(modulation, 7, slot1, sizeof slot1, labels, count) == S3_ACCEPTED);
+        EXPECT(s3_slot_of_labels(modulation, 7, labels, count, back, sizeof back) == S3_ACCEPTED);
+        EXPECT(memcmp(back, slot1, sizeof back) == 0);
+        labels[count - 1] = (uint8_t)(1u << modulation);
+        EXPECT(s3_slot_of_labels(modulation, 7, labels, count, back, sizeof back) == S3_LABEL);
+    }
+    EXPECT(s3_labels(3, 1, slot1, sizeof slot1, labels, 14960) == S3_ACCEPTED);
+    EXPECT(labels[0] == (bit(slot1, 29920) << 2 | bit(slot1, 14960) << 1 | bit(slot1, 0)));
+    EXPECT(s3_labels(3, 3, slot1, sizeof slot1, labels, 14960) == S3_ACCEPTED);
+    EXPECT(labels[0] == (bit(slot1, 0) << 2 | bit(slot1, 14960) << 1 | bit(slot1, 29920)));
+    memset(labels, FOUND, sizeof labels);
+    EXPECT(s3_labels(6, 1, slot1, sizeof slot1, labels, 7480) == S3_PLAN);
+    EXPECT(s3_labels(65537, 1, slot1, sizeof slot1, labels, 44880) == S3_PLAN);
+    EXPECT(s3_labels(1, 65537, slot1, sizeof slot1, labels, 44880) == S3_PLAN);
+    EXPECT(s3_labels(1, 1, slot1, sizeof slot1, labels, 44879) == S3_LENGTH);
+    EXPECT(untouched(labels, sizeof labels));
+    EXPECT(s3_slot_of_labels(65537, 1, labels, 44880, back, sizeof back) == S3_PLAN);
+    EXPECT(s3_slot_of_labels(1, 12, labels, 44880, back, sizeof back) == S3_PLAN);
+    EXPECT(s3_slot_of_labels(1, 1, labels, 44880, back, 5609) == S3_LENGTH);
+    EXPECT(memcmp(back, slot1, sizeof back) == 0);
+}
+
+static void block_symbols(void)
+{
+    static uint8_t labels[S3_BLOCK_LABELS], back[S3_BLOCK_OCTETS];
+    memset(labels, FOUND, sizeof labels);
+    memset(back, FOUND, sizeof back);
+    EXPECT(s3_tmcc_labels(block, sizeof block, labels, sizeof labels - 1) == S3_LENGTH);
+    EXPECT(untouched(labels, sizeof labels));
+    EXPECT(s3_tmcc_of_labels(labels, sizeof labels, back, sizeof back - 1) == S3_LENGTH);
+    EXPECT(s3_tmcc_of_labels(labels, sizeof labels, back, sizeof back) == S3_LABEL);
+    EXPECT(untouched(back, sizeof back));
+    EXPECT(s3_tmcc_labels(block, sizeof block, labels, sizeof labels) == S3_ACCEPTED);
+    EXPECT(labels[0] == bit(block, 0) && labels[31679] == bit(block, 31679));
+    EXPECT(s3_tmcc_of_labels(labels, sizeof labels, back, sizeof back) == S3_ACCEPTED);
+    EXPECT(memcmp(back, block, sizeof back) == 0);
+}
+
+static void packing(void)
+{
+    static uint8_t stream[188 * 27], octets[187 * 27], back[188 * 27];
+    fill(stream, sizeof stream);
+    for (size_t i = 0; i < 27; i++) stream[188 * i] = 0x47;
+    for (uint32_t rate = 1; rate <= 11; rate++) {
+        const size_t n = packets[rate];
+        EXPECT(s3_pack(rate, stream, 188 * n, octets, 187 * n) == S3_ACCEPTED);
+        EXPECT(memcmp(octets + 187 * (n - 1), stream + 188 * (n - 1) + 1, 187) == 0);
+        EXPECT(s3_unpack(rate, octets, 187 * n, back, 188 * n) == S3_ACCEPTED);
+        EXPECT(memcmp(back, stream, 188 * n) == 0);
+    }
+    memset(octets, FOUND, sizeof octets);
+    memset(back, FOUND, sizeof back);
+    EXPECT(s3_pack(0, stream, 1880, octets, 1870) == S3_PLAN);
+    EXPECT(s3_pack(65537, stream, 1880, octets, 1870) == S3_PLAN);
+    EXPECT(s3_pack(1, stream, 1879, octets, 1870) == S3_LENGTH);
+    EXPECT(s3_pack(1, stream, 1880, octets, 1871) == S3_LENGTH);
+    stream[188 * 9] = 0x46;
+    EXPECT(s3_pack(1, stream, 1880, octets, 1870) == S3_SYNC);
+    EXPECT(s3_unpack(12, octets, 1870, back, 1880) == S3_PLAN);
+    EXPECT(s3_unpack(65537, octets, 1870, back, 1880) == S3_PLAN);
+    EXPECT(s3_unpack(1, octets, 1870, back, 1879) == S3_LENGTH);
+    EXPECT(untouched(octets, sizeof octets) && untouched(back, sizeof back));
+}
+
+int main(void)
+{
+    published();
+    opening();
+    passing();
+    coding_a_slot();
+    reading_a_slot();
+    coding_a_frame();
+    reading_a_frame();
+    tmcc();
+    symbols();
+    block_symbols();
+    packing();
+    printf("c: %u passed, %u failed\n", passed, failed);
+    return failed != 0;
+}
