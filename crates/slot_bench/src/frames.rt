@@ -98,13 +98,26 @@ fn with_areas(
     );
 }
 
+// The same with the areas as arrays: they become slices here and not where they are made, which is slow to prove.
+fn lent(
+    rate: u16,
+    codings: u64,
+    readings: u64,
+    table: &mut [u16; 510],
+    source: &mut [u8; 608520],
+    found: &mut [u8; 608520],
+    frame: &mut [u8; 673200],
+) {
+    with_areas(rate, codings, readings, table, source, found, frame);
+}
+
 // Codes and reads frames of a rate, and writes their line.
 pub fn of_rate(rate: u16, codings: u64, readings: u64) {
     let mut table = [0u16; 510];
     let mut source = [0u8; 608520];
     let mut found = [0u8; 608520];
     let mut frame = [0u8; 673200];
-    with_areas(
+    lent(
         rate,
         codings,
         readings,
