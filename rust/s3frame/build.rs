@@ -21,6 +21,8 @@ fn main() {
         let archive = archive.display();
         panic!("there is no {archive}: run `rt staticlib s3frame`, or set {FOLDER}");
     }
+    let target = env::var("CARGO_CFG_TARGET_ARCH").expect("cargo names the target");
+    assert_eq!(target, "x86_64", "the archive is compiled for x86-64");
     println!("cargo:rustc-link-search=native={}", folder.display());
     println!("cargo:rustc-link-lib=static=s3frame");
 }

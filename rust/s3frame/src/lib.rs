@@ -5,7 +5,7 @@
 //! the length that is said; a refusal changes no lent area, and says by its word ([`Refusal`]) what was wrong.
 //!
 //! ```
-//! use s3frame::{Group, FrameState, Plan, Settings};
+//! use s3frame::{FrameState, Group, Plan, Settings};
 //!
 //! # fn main() -> Result<(), s3frame::Refusal> {
 //! let plan = Plan::new(&[Group::new(4, 7, 115), Group::new(2, 3, 5)])?;

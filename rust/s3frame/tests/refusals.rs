@@ -152,7 +152,7 @@ fn break_one_length(random: &mut Random, first: &mut Vec<u8>, second: &mut Vec<u
 #[test]
 fn coding_a_slot() {
     let mut random = Random::new(53);
-    for faults in choices(&[1, 6, 3, 2, 4, 5], trials(5)) {
+    for faults in choices(&[1, 6, 3, 2, 4, 5], trials(20)) {
         let (mut lent, rate) = Lent::new(&mut random, true);
         let mut table = random.table(rate);
         let mut source = random.source(22 + 187 * packets::packets_of(rate).expect("a known rate"));
@@ -246,17 +246,19 @@ fn checking_parity() {
     }
 }
 
+/// Frames with something wrong; those that are accepted have a test file of their own.
 #[test]
 fn whole_frames() {
     let mut random = Random::new(56);
-    for faults in choices(&[1, 6, 4, 5], trials(4)) {
+    let choices = choices(&[1, 6, 4, 5], trials(20));
+    for faults in choices.iter().filter(|faults| faults.first() != 0) {
         let (mut lent, _) = Lent::new(&mut random, true);
         let plan = of_octets(&lent.plan);
         let rates: Vec<usize> = plan.iter().map(|group| group.rate).collect();
         let mut tables: Vec<u16> = rates.iter().flat_map(|&rate| random.table(rate)).collect();
         let mut source = random.source(source_octets(&plan));
         let mut coded = random.octets(frame::OCTETS);
-        let mut answers = random.octets(120);
+        let answers = random.octets(120);
         if faults.has(5) {
             faults::break_tables(&mut random, &rates, &mut tables);
         }
@@ -280,7 +282,6 @@ fn whole_frames() {
             |coded| calls::code_frame(&lent.plan, mask, start, &tables, &source, coded),
             |coded| frame::code(&plan, mask, start, &tables, &source, coded),
         );
-        answers[0] = 7;
         kept(
             faults.first(),
             &(source.clone(), answers),
