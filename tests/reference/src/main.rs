@@ -1,24 +1,10 @@
-//! A second implementation of the coders and readers of slots, whole frames and TMCC blocks, written from document 002
-//! and, where its drawings are lost, from document 01. It shares nothing with the proved crates: bits lie one to an octet,
-//! and each step is the document's.
+//! The second implementation as a program that writes lines to compare.
 //!
 //!     reference vectors             the lines that the program slot_vectors must write
 //!     reference frames              lines of whole frames and TMCC blocks, coded, read back and read when damaged
 //!     reference bench COUNTS        the work of the program slot_bench: slots coded and read, frames coded and read
 //!     reference quick COUNTS        the same work by the loops of the proved code, for the benchmark alone
-mod bch;
-mod bench;
-mod dispersal;
-mod frame;
-mod frames;
-mod ldpc;
-mod plan;
-mod quick;
-mod samples;
-mod slot;
-mod tables;
-mod tmcc;
-mod vectors;
+use reference::{bench, frames, vectors};
 
 fn main() {
     let words: Vec<String> = std::env::args().skip(1).collect();

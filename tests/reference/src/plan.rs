@@ -46,6 +46,15 @@ pub fn plan(groups: &[(usize, usize, usize)]) -> Vec<Group> {
     groups.iter().map(|&(modulation, rate, slots)| Group { modulation, rate, slots }).collect()
 }
 
+/// A plan lent as octets, three for each group. A list that is too long or ends within a group is no plan, and gives none.
+pub fn of_octets(octets: &[u8]) -> Vec<Group> {
+    if octets.len() > 24 || octets.len() % 3 != 0 {
+        return Vec::new();
+    }
+    let group = |three: &[u8]| (usize::from(three[0]), usize::from(three[1]), usize::from(three[2]));
+    plan(&octets.chunks(3).map(group).collect::<Vec<_>>())
+}
+
 /// Whether the groups stand in the order of 2.2.1.2 (1): higher modulation first, then higher rate, and no two alike.
 fn falls(plan: &[Group]) -> bool {
     plan.windows(2).all(|two| (two[0].modulation, two[0].rate) > (two[1].modulation, two[1].rate))
@@ -89,6 +98,15 @@ mod tests {
         assert_eq!(number(&[(4, 7, 116), (2, 3, 4)]), 1);
         assert_eq!(number(&[(4, 7, 120), (2, 3, 0)]), 1);
         assert_eq!(number(&[(4, 7, 120), (2, 3, 5)]), 1);
+    }
+
+    #[test]
+    fn octets_of_whole_groups() {
+        let number = |octets: &[u8]| refusal(&of_octets(octets));
+        assert_eq!([number(&[4, 7, 115, 2, 3, 5]), number(&[5, 11, 120])], [0, 0]);
+        assert_eq!([number(&[]), number(&[5, 11, 120, 0]), number(&[5, 11])], [1, 1, 1]);
+        let nine: Vec<u8> = (1..=9).rev().flat_map(|rate| [1, rate, 10]).collect();
+        assert_eq!([number(&nine), number(&nine[..24])], [1, 1]);
     }
 
     #[test]

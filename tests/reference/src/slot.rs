@@ -8,13 +8,16 @@ pub const WIDTH: u32 = 25;
 /// Refusals of document 01.
 pub const PLAN_WRONG: u8 = 1;
 pub const DUMMY: u8 = 2;
+pub const FULL: u8 = 3;
 pub const LENGTH_WRONG: u8 = 4;
 pub const TABLE_WRONG: u8 = 5;
 pub const REGISTER_WRONG: u8 = 6;
+pub const SYNC_WRONG: u8 = 7;
 pub const PARITY_WRONG: u8 = 8;
 pub const BCH_WRONG: u8 = 9;
 pub const STUFF_WRONG: u8 = 10;
 pub const TAIL_WRONG: u8 = 11;
+pub const LABEL_WRONG: u8 = 12;
 
 /// What a rate fixes: its table and the generator of the outer code.
 pub struct Code {

@@ -1,0 +1,318 @@
+//! The calls of the archive as they stand: numbers and slices in, document 01's number out, 0 where the call is accepted.
+//!
+//! All of this crate's `unsafe` is here. A slice goes over as its pointer and then its length, each a parameter of its own.
+//! The functions behind are proved for every input: they read and write within the slices that they are lent, keep none of
+//! them, and always return. So each call below is sound for any arguments, and the compiler sees to it that no slice that is
+//! written overlaps another.
+//!
+//! A plan is lent as three octets for each group: modulation, rate, slots. `next` takes two numbers, the next slot and its
+//! register. Each call's numbers are listed in the order in which they are tested.
+
+extern "C" {
+    fn s3_open(plan: *const u8, plan_length: usize, mask: u32, start: u32, next: *mut u32, next_length: usize) -> u32;
+    fn s3_pass(
+        plan: *const u8,
+        plan_length: usize,
+        mask: u32,
+        start: u32,
+        slot: u32,
+        register: u32,
+        next: *mut u32,
+        next_length: usize,
+    ) -> u32;
+    fn s3_code_slot(
+        plan: *const u8,
+        plan_length: usize,
+        mask: u32,
+        start: u32,
+        slot: u32,
+        register: u32,
+        table: *const u16,
+        table_length: usize,
+        source: *const u8,
+        source_length: usize,
+        coded: *mut u8,
+        coded_length: usize,
+        next: *mut u32,
+        next_length: usize,
+    ) -> u32;
+    fn s3_read_slot(
+        plan: *const u8,
+        plan_length: usize,
+        mask: u32,
+        start: u32,
+        slot: u32,
+        register: u32,
+        table: *const u16,
+        table_length: usize,
+        coded: *const u8,
+        coded_length: usize,
+        source: *mut u8,
+        source_length: usize,
+        next: *mut u32,
+        next_length: usize,
+    ) -> u32;
+    fn s3_check_parity(rate: u32, table: *const u16, table_length: usize, coded: *const u8, coded_length: usize)
+        -> u32;
+    fn s3_code_frame(
+        plan: *const u8,
+        plan_length: usize,
+        mask: u32,
+        start: u32,
+        tables: *const u16,
+        tables_length: usize,
+        source: *const u8,
+        source_length: usize,
+        frame: *mut u8,
+        frame_length: usize,
+    ) -> u32;
+    fn s3_read_frame(
+        plan: *const u8,
+        plan_length: usize,
+        mask: u32,
+        start: u32,
+        tables: *const u16,
+        tables_length: usize,
+        frame: *const u8,
+        frame_length: usize,
+        source: *mut u8,
+        source_length: usize,
+        answers: *mut u8,
+        answers_length: usize,
+    ) -> u32;
+    fn s3_code_tmcc(
+        mask: u32,
+        start: u32,
+        table: *const u16,
+        table_length: usize,
+        source: *const u8,
+        source_length: usize,
+        block: *mut u8,
+        block_length: usize,
+    ) -> u32;
+    fn s3_read_tmcc(
+        mask: u32,
+        start: u32,
+        table: *const u16,
+        table_length: usize,
+        block: *const u8,
+        block_length: usize,
+        source: *mut u8,
+        source_length: usize,
+    ) -> u32;
+    fn s3_labels(
+        modulation: u32,
+        rate: u32,
+        coded: *const u8,
+        coded_length: usize,
+        labels: *mut u8,
+        labels_length: usize,
+    ) -> u32;
+    fn s3_slot_of_labels(
+        modulation: u32,
+        rate: u32,
+        labels: *const u8,
+        labels_length: usize,
+        coded: *mut u8,
+        coded_length: usize,
+    ) -> u32;
+    fn s3_tmcc_labels(block: *const u8, block_length: usize, labels: *mut u8, labels_length: usize) -> u32;
+    fn s3_tmcc_of_labels(labels: *const u8, labels_length: usize, block: *mut u8, block_length: usize) -> u32;
+    fn s3_pack(rate: u32, packets: *const u8, packets_length: usize, data: *mut u8, data_length: usize) -> u32;
+    fn s3_unpack(rate: u32, data: *const u8, data_length: usize, packets: *mut u8, packets_length: usize) -> u32;
+    fn s3_published_table(rate: u32, table: *mut u16, table_length: usize) -> u32;
+}
+
+/// Opens a frame. A refusal writes two zeros into a `next` of two numbers. Numbers: 1, 6, 4.
+pub fn open(plan: &[u8], mask: u32, start: u32, next: &mut [u32]) -> u32 {
+    unsafe { s3_open(plan.as_ptr(), plan.len(), mask, start, next.as_mut_ptr(), next.len()) }
+}
+
+/// Passes a dummy. Numbers: 1, 6, 3, 2, 4.
+pub fn pass(plan: &[u8], mask: u32, start: u32, slot: u32, register: u32, next: &mut [u32]) -> u32 {
+    unsafe { s3_pass(plan.as_ptr(), plan.len(), mask, start, slot, register, next.as_mut_ptr(), next.len()) }
+}
+
+/// Codes a slot. Numbers: 1, 6, 3, 2, 4, 5.
+#[allow(clippy::too_many_arguments)]
+pub fn code_slot(
+    plan: &[u8],
+    mask: u32,
+    start: u32,
+    slot: u32,
+    register: u32,
+    table: &[u16],
+    source: &[u8],
+    coded: &mut [u8],
+    next: &mut [u32],
+) -> u32 {
+    unsafe {
+        s3_code_slot(
+            plan.as_ptr(),
+            plan.len(),
+            mask,
+            start,
+            slot,
+            register,
+            table.as_ptr(),
+            table.len(),
+            source.as_ptr(),
+            source.len(),
+            coded.as_mut_ptr(),
+            coded.len(),
+            next.as_mut_ptr(),
+            next.len(),
+        )
+    }
+}
+
+/// Reads a slot; 8, 9 and 10 move on. Numbers: 1, 6, 3, 2, 4, 5, 8, 9, 10.
+#[allow(clippy::too_many_arguments)]
+pub fn read_slot(
+    plan: &[u8],
+    mask: u32,
+    start: u32,
+    slot: u32,
+    register: u32,
+    table: &[u16],
+    coded: &[u8],
+    source: &mut [u8],
+    next: &mut [u32],
+) -> u32 {
+    unsafe {
+        s3_read_slot(
+            plan.as_ptr(),
+            plan.len(),
+            mask,
+            start,
+            slot,
+            register,
+            table.as_ptr(),
+            table.len(),
+            coded.as_ptr(),
+            coded.len(),
+            source.as_mut_ptr(),
+            source.len(),
+            next.as_mut_ptr(),
+            next.len(),
+        )
+    }
+}
+
+/// Checks the parity of a slot. Numbers: 1, 4, 5, 8.
+pub fn check_parity(rate: u32, table: &[u16], coded: &[u8]) -> u32 {
+    unsafe { s3_check_parity(rate, table.as_ptr(), table.len(), coded.as_ptr(), coded.len()) }
+}
+
+/// Codes a whole frame. Numbers: 1, 6, 4, 5.
+pub fn code_frame(plan: &[u8], mask: u32, start: u32, tables: &[u16], source: &[u8], frame: &mut [u8]) -> u32 {
+    unsafe {
+        s3_code_frame(
+            plan.as_ptr(),
+            plan.len(),
+            mask,
+            start,
+            tables.as_ptr(),
+            tables.len(),
+            source.as_ptr(),
+            source.len(),
+            frame.as_mut_ptr(),
+            frame.len(),
+        )
+    }
+}
+
+/// Reads a whole frame. Numbers: 1, 6, 4, 5.
+pub fn read_frame(
+    plan: &[u8],
+    mask: u32,
+    start: u32,
+    tables: &[u16],
+    frame: &[u8],
+    source: &mut [u8],
+    answers: &mut [u8],
+) -> u32 {
+    unsafe {
+        s3_read_frame(
+            plan.as_ptr(),
+            plan.len(),
+            mask,
+            start,
+            tables.as_ptr(),
+            tables.len(),
+            frame.as_ptr(),
+            frame.len(),
+            source.as_mut_ptr(),
+            source.len(),
+            answers.as_mut_ptr(),
+            answers.len(),
+        )
+    }
+}
+
+/// Codes a TMCC block. Numbers: 6, 4, 5, 11.
+pub fn code_tmcc(mask: u32, start: u32, table: &[u16], source: &[u8], block: &mut [u8]) -> u32 {
+    unsafe {
+        s3_code_tmcc(
+            mask,
+            start,
+            table.as_ptr(),
+            table.len(),
+            source.as_ptr(),
+            source.len(),
+            block.as_mut_ptr(),
+            block.len(),
+        )
+    }
+}
+
+/// Reads a TMCC block. Numbers: 6, 4, 5, 8, 9.
+pub fn read_tmcc(mask: u32, start: u32, table: &[u16], block: &[u8], source: &mut [u8]) -> u32 {
+    unsafe {
+        s3_read_tmcc(
+            mask,
+            start,
+            table.as_ptr(),
+            table.len(),
+            block.as_ptr(),
+            block.len(),
+            source.as_mut_ptr(),
+            source.len(),
+        )
+    }
+}
+
+/// The labels of a slot. Numbers: 1, 4.
+pub fn labels(modulation: u32, rate: u32, coded: &[u8], labels: &mut [u8]) -> u32 {
+    unsafe { s3_labels(modulation, rate, coded.as_ptr(), coded.len(), labels.as_mut_ptr(), labels.len()) }
+}
+
+/// The slot of labels. Numbers: 1, 4, 12.
+pub fn slot_of_labels(modulation: u32, rate: u32, labels: &[u8], coded: &mut [u8]) -> u32 {
+    unsafe { s3_slot_of_labels(modulation, rate, labels.as_ptr(), labels.len(), coded.as_mut_ptr(), coded.len()) }
+}
+
+/// The labels of a TMCC block. Numbers: 4.
+pub fn tmcc_labels(block: &[u8], labels: &mut [u8]) -> u32 {
+    unsafe { s3_tmcc_labels(block.as_ptr(), block.len(), labels.as_mut_ptr(), labels.len()) }
+}
+
+/// The TMCC block of labels. Numbers: 4, 12.
+pub fn tmcc_of_labels(labels: &[u8], block: &mut [u8]) -> u32 {
+    unsafe { s3_tmcc_of_labels(labels.as_ptr(), labels.len(), block.as_mut_ptr(), block.len()) }
+}
+
+/// Packs TS packets. Numbers: 1, 4, 7.
+pub fn pack(rate: u32, packets: &[u8], data: &mut [u8]) -> u32 {
+    unsafe { s3_pack(rate, packets.as_ptr(), packets.len(), data.as_mut_ptr(), data.len()) }
+}
+
+/// Unpacks TS packets. Numbers: 1, 4.
+pub fn unpack(rate: u32, data: &[u8], packets: &mut [u8]) -> u32 {
+    unsafe { s3_unpack(rate, data.as_ptr(), data.len(), packets.as_mut_ptr(), packets.len()) }
+}
+
+/// Copies the published table of a rate into an area of its length. Numbers: 1, 4.
+pub fn published_table(rate: u32, table: &mut [u16]) -> u32 {
+    unsafe { s3_published_table(rate, table.as_mut_ptr(), table.len()) }
+}

@@ -1,0 +1,101 @@
+//! Whole frames beside the second implementation.
+mod common;
+use common::{code, groups, number, trials, Random};
+use reference::frame;
+use s3frame::{code_frame, read_frame, Plan, Settings, FRAME_OCTETS, FRAME_SLOTS, SLOT_OCTETS};
+
+/// A frame's plan, settings and tables.
+struct Frame {
+    plan: Plan,
+    settings: Settings,
+    tables: Vec<Vec<u16>>,
+}
+
+impl Frame {
+    fn new(random: &mut Random, plan: Plan) -> Frame {
+        let tables = plan.groups().map(|group| random.table(group.rate.into())).collect();
+        Frame { plan, settings: random.settings(25), tables }
+    }
+
+    /// Codes a source both ways and compares; gives the frame.
+    fn code(&self, random: &mut Random, source: &[u8]) -> Vec<u8> {
+        let found = random.octets(FRAME_OCTETS);
+        let [mut ours, mut theirs] = [found.clone(), found];
+        let (tables, settings) = (self.tables.concat(), self.settings);
+        let expected = frame::code(&groups(&self.plan), settings.mask, settings.start, &tables, source, &mut theirs);
+        assert_eq!(number(code_frame(&self.plan, settings, &tables, source, &mut ours)), expected.into());
+        assert_eq!(expected, 0);
+        assert!(ours == theirs, "the frames differ");
+        ours
+    }
+
+    /// Reads a frame both ways and compares; gives the source and the answers.
+    fn read(&self, random: &mut Random, coded: &[u8]) -> (Vec<u8>, Vec<u8>) {
+        let found = (random.octets(self.plan.source_octets()), random.octets(FRAME_SLOTS));
+        let [mut ours, mut theirs] = [found.clone(), found];
+        let (tables, Settings { mask, start }) = (self.tables.concat(), self.settings);
+        let groups = groups(&self.plan);
+        let expected = frame::read(&groups, mask, start, &tables, coded, &mut theirs.0, &mut theirs.1);
+        let answer = read_frame(&self.plan, self.settings, &tables, coded, &mut ours.0, &mut ours.1);
+        assert_eq!(number(answer), expected.into());
+        assert_eq!(expected, 0);
+        assert!(ours == theirs, "what was read differs");
+        ours
+    }
+
+    /// Damages about one slot in eight, dummies too, and gives the answers to expect.
+    fn damage(&self, random: &mut Random, coded: &mut [u8]) -> Vec<u8> {
+        let rates: Vec<usize> = self.plan.groups().map(|group| group.rate.into()).collect();
+        let codes: Vec<_> = rates.iter().zip(&self.tables).map(|(&rate, table)| code(rate, table)).collect();
+        let places = reference::plan::places(&groups(&self.plan));
+        let slot = |(place, part): (&reference::plan::Place, &mut [u8])| {
+            let damage = if random.chance(8) { random.pick(&[8, 9, 10]) } else { 0 };
+            if damage != 0 {
+                part.copy_from_slice(&random.damaged(&codes[place.group], part, damage));
+            }
+            if place.data {
+                damage
+            } else {
+                2
+            }
+        };
+        places.iter().zip(coded.chunks_mut(SLOT_OCTETS)).map(slot).collect()
+    }
+}
+
+/// Codes a frame, reads it whole and damaged.
+fn frame_of(random: &mut Random, plan: Plan) {
+    let frame = Frame::new(random, plan);
+    let source = random.source(plan.source_octets());
+    let mut coded = frame.code(random, &source);
+    let (back, answers) = frame.read(random, &coded);
+    assert!(back == source, "the frame read is not the one coded");
+    assert!(answers.iter().all(|answer| [0, 2].contains(answer)));
+    let expected = frame.damage(random, &mut coded);
+    let (_, answers) = frame.read(random, &coded);
+    assert_eq!(answers, expected);
+}
+
+/// Every rate in a frame of its own, so that none is left to chance.
+#[test]
+fn every_rate() {
+    let mut random = Random::new(11);
+    for _ in 0..trials(1) {
+        for rate in 1..=11 {
+            let modulation = 1 + random.below(5) as u8;
+            let plan = random.plan_with(modulation, rate);
+            frame_of(&mut random, plan);
+        }
+    }
+    println!("counted {} frames coded", trials(11));
+}
+
+#[test]
+fn plans_of_chance() {
+    let mut random = Random::new(12);
+    for _ in 0..trials(11) {
+        let plan = random.plan();
+        frame_of(&mut random, plan);
+    }
+    println!("counted {} frames coded", trials(11));
+}

@@ -1,0 +1,179 @@
+//! Slots, one call at a time, beside the second implementation.
+mod common;
+use common::{code, groups, number, trials, Random};
+use reference::calls::{self, State};
+use s3frame::{FrameState, Plan, Refusal, Settings, SLOT_OCTETS};
+
+/// The same state for the second implementation.
+fn twin<'a>(groups: &'a [reference::plan::Group], state: &FrameState) -> State<'a> {
+    let settings = state.settings();
+    State { plan: groups, mask: settings.mask, start: settings.start, slot: state.slot(), register: state.register() }
+}
+
+fn place(state: &FrameState) -> [u32; 2] {
+    [state.slot(), state.register()]
+}
+
+/// Codes a slot both ways and compares; gives the slot and the state after it.
+fn coded(random: &mut Random, state: FrameState, table: &[u16], source: &[u8]) -> (Vec<u8>, FrameState) {
+    let found = random.octets(SLOT_OCTETS);
+    let [mut ours, mut theirs] = [found.clone(), found];
+    let mut next = place(&state);
+    let groups = groups(state.plan());
+    assert_eq!(calls::code_slot(&twin(&groups, &state), table, source, &mut theirs, &mut next), 0);
+    let after = state.code_slot(table, source, &mut ours).expect("a slot that is coded");
+    assert_eq!(place(&after), next);
+    assert!(ours == theirs, "the slots differ");
+    (ours, after)
+}
+
+/// Reads a slot both ways and compares; gives the number, the octets and the state after it.
+fn read(
+    random: &mut Random,
+    state: FrameState,
+    table: &[u16],
+    slot: &[u8],
+    count: usize,
+) -> (u32, Vec<u8>, FrameState) {
+    let found = random.octets(count);
+    let [mut ours, mut theirs] = [found.clone(), found.clone()];
+    let mut next = place(&state);
+    let groups = groups(state.plan());
+    let expected = calls::read_slot(&twin(&groups, &state), table, slot, &mut theirs, &mut next);
+    let read = state.read_slot(table, slot, &mut ours);
+    assert_eq!(number(read.answer), expected.into());
+    assert_eq!(place(&read.state), next);
+    assert!(ours == theirs, "what was read differs");
+    assert!(expected == 0 || ours == found, "a refused slot writes nothing");
+    (expected.into(), ours, read.state)
+}
+
+/// Checks a slot's parity both ways and compares.
+fn checked(rate: usize, table: &[u16], slot: &[u8]) -> u32 {
+    let ours = number(s3frame::check_parity(rate as u32, table, slot));
+    assert_eq!(ours, u32::from(calls::check_parity(rate, table, slot)));
+    ours
+}
+
+/// The numbers of the data slots of this modulation and rate.
+fn data_slots(plan: &Plan, modulation: u8, rate: u8) -> Vec<u32> {
+    let of_kind = |slot: &u32| {
+        let (group, data) = plan.place(*slot).expect("a slot of the frame");
+        data && (group.modulation, group.rate) == (modulation, rate)
+    };
+    (1..=120).filter(of_kind).collect()
+}
+
+/// Codes one slot, reads it whole and damaged in each way, and gives how many slot calls that made.
+fn slot_of(random: &mut Random, modulation: u8, rate: u8) -> usize {
+    let plan = random.plan_with(modulation, rate);
+    let slots = data_slots(&plan, modulation, rate);
+    let (settings, register) = (random.settings(25), random.register(25));
+    let state = FrameState::at(plan, settings, random.pick(&slots), register);
+    let rate = usize::from(rate);
+    let table = random.table(rate);
+    let source = random.source(s3frame::source_octets(rate as u32).expect("a known rate"));
+
+    let (slot, after) = coded(random, state, &table, &source);
+    assert_eq!(checked(rate, &table, &slot), 0);
+    assert_eq!(read(random, state, &table, &slot, source.len()), (0, source.clone(), after));
+    for damage in [8, 9, 10] {
+        let slot = random.damaged(&code(rate, &table), &slot, damage);
+        let (number, _, moved) = read(random, state, &table, &slot, source.len());
+        assert_eq!((number, moved), (damage.into(), after), "the state after damage is that after a good slot");
+        assert_eq!(checked(rate, &table, &slot), if damage == 8 { 8 } else { 0 });
+    }
+    5
+}
+
+#[test]
+fn every_rate_and_modulation() {
+    let mut random = Random::new(1);
+    let mut calls = 0;
+    for _ in 0..trials(8) {
+        for modulation in 1..=5 {
+            for rate in 1..=11 {
+                calls += slot_of(&mut random, modulation, rate);
+            }
+        }
+    }
+    println!("counted {calls} slot calls");
+    assert!(calls >= 2_000);
+}
+
+/// The second implementation's frame, and the one made slot by slot, dummies passed; then both are read slot by slot, some
+/// slots damaged. Gives how many slot calls that made.
+fn frame_of(random: &mut Random) -> usize {
+    let (plan, settings) = (random.plan(), random.settings(25));
+    let tables: Vec<Vec<u16>> = plan.groups().map(|group| random.table(group.rate.into())).collect();
+    let source = random.source(plan.source_octets());
+    let mut frame = random.octets(s3frame::FRAME_OCTETS);
+    let lent = tables.concat();
+    let untouched = frame.clone();
+    assert_eq!(reference::frame::code(&groups(&plan), settings.mask, settings.start, &lent, &source, &mut frame), 0);
+
+    let groups: Vec<s3frame::Group> = plan.groups().collect();
+    let opened = FrameState::open(plan, settings).expect("settings that are allowed");
+    let (mut coder, mut reader, mut from, mut calls) = (opened, opened, 0, 0);
+    for (part, untouched) in frame.chunks(SLOT_OCTETS).zip(untouched.chunks(SLOT_OCTETS)) {
+        let (group, data) = plan.place(coder.slot()).expect("a slot of the frame");
+        if !data {
+            assert_eq!(coder.code_slot(&[], &[], &mut []), Err(Refusal::Dummy));
+            (coder, reader) = (coder.pass().expect("a dummy"), reader.pass().expect("a dummy"));
+            assert!(part == untouched);
+            continue;
+        }
+        let table = &tables[groups.iter().position(|other| *other == group).expect("one of the groups")];
+        let to = from + s3frame::source_octets(group.rate.into()).expect("a known rate");
+        let mut slot = vec![0; SLOT_OCTETS];
+        coder = coder.code_slot(table, &source[from..to], &mut slot).expect("a slot that is coded");
+        assert!(slot == part, "slot {} differs from the whole frame's", coder.slot() - 1);
+        let damage = random.pick(&[0, 0, 0, 0, 8, 9, 10]);
+        if damage != 0 {
+            slot = random.damaged(&code(group.rate.into(), table), &slot, damage);
+        }
+        let mut back = vec![0; to - from];
+        let read = reader.read_slot(table, &slot, &mut back);
+        assert_eq!(number(read.answer), damage.into());
+        assert!(damage != 0 || back == source[from..to]);
+        (reader, from, calls) = (read.state, to, calls + 2);
+        assert_eq!(reader, coder);
+    }
+    assert_eq!((coder.slot(), coder.pass()), (121, Err(Refusal::Full)));
+    calls
+}
+
+#[test]
+fn frames_slot_by_slot() {
+    let mut random = Random::new(2);
+    let calls: usize = (0..trials(3)).map(|_| frame_of(&mut random)).sum();
+    println!("counted {calls} slot calls");
+}
+
+/// Slot calls refused for each reason that is tested before the slot itself; the state stays, and nothing is written.
+#[test]
+fn a_refused_state_stays() {
+    let mut random = Random::new(3);
+    let (plan, settings, register) = (random.plan_with(4, 7), random.settings(25), random.register(25));
+    let slot = random.pick(&data_slots(&plan, 4, 7));
+    let (table, source) = (random.table(7), random.octets(22 + 23 * 187));
+    let state = |slot, register| FrameState::at(plan, settings, slot, register);
+    let cases = [
+        (state(0, 0), &table[..], &source[..], Refusal::Plan),
+        (state(121, 0), &table[..], &source[..], Refusal::Register),
+        (state(121, register), &table[..], &source[..], Refusal::Full),
+        (state(slot, register), &table[1..], &source[1..], Refusal::Length),
+        (state(slot, register), &table[1..], &source[..], Refusal::Table),
+    ];
+    for (state, table, source, refusal) in cases {
+        let found = random.octets(SLOT_OCTETS);
+        let (mut coded, mut back) = (found.clone(), source.to_vec());
+        assert_eq!(state.code_slot(table, source, &mut coded), Err(refusal));
+        let read = state.read_slot(table, &found, &mut back);
+        assert_eq!((read.answer, read.state), (Err(refusal), state));
+        assert!(coded == found && back == source);
+    }
+    assert_eq!(state(slot, register).pass(), Err(Refusal::Dummy));
+    let wide = Settings { mask: settings.mask, start: 1 << 25 };
+    assert_eq!(FrameState::open(plan, wide), Err(Refusal::Register));
+}

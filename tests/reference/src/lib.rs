@@ -1,0 +1,19 @@
+//! A second implementation of the coders and readers of slots, whole frames and TMCC blocks, written from document 002
+//! and, where its drawings are lost, from document 01. It shares nothing with the proved crates: bits lie one to an octet,
+//! and each step is the document's. The library is for tests that compare call by call.
+pub mod bch;
+pub mod bench;
+pub mod calls;
+pub mod dispersal;
+pub mod frame;
+pub mod frames;
+pub mod ldpc;
+pub mod packets;
+pub mod plan;
+pub mod quick;
+pub mod samples;
+pub mod slot;
+pub mod symbols;
+pub mod tables;
+pub mod tmcc;
+pub mod vectors;
