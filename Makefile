@@ -1,9 +1,11 @@
 # make demo   proves and builds plan-list, and runs it on the plan of document 01
 # make test   the gate: every proof from nothing, the must-fail edits, the programs and the tests of tests/
-# make bench  times coding and reading, the proved code beside Rust, in ns a coded bit; it needs cargo too
+# make lib    proves the calls for C and Rust, and leaves them in target/staticlib/libs3frame.a, for include/s3frame.h
+# make soak   the tests of the Rust crate on twenty times as many inputs; S3_SEED sets their seed
+# make bench  times coding and reading slots and frames, the proved code beside Rust; it needs cargo too
 SHELL := /bin/bash
 .SHELLFLAGS := -o pipefail -c
-.PHONY: demo test bench
+.PHONY: demo test lib soak bench
 
 demo:
 	rt check plan_list | grep '^rt:'
@@ -11,6 +13,12 @@ demo:
 
 test:
 	.ci/run
+
+lib:
+	rt staticlib s3frame | grep '^rt:'
+
+soak: lib
+	S3_SOAK=20 tests/rust/run
 
 bench:
 	rt check slot_bench | grep '^rt: .*bench'
