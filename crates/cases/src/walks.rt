@@ -55,7 +55,7 @@ fn code_116(state: FrameState, table: &[u16], source: &[u8], coded: &mut [u8]) {
     line(b"slot 116 coded ", answer.number as u64);
 }
 
-// That slot by the call on the whole frame.
+// The same slot by the call on the whole frame.
 fn by_frame(tables: &[u16], sources: &[u8], frame: &mut [u8], coded: &[u8])
     requires { ⌜ length (now frame) ≡ 673200 ⌝ }
 {
@@ -95,19 +95,6 @@ fn whole(
     by_frame(tables, sources, frame, coded);
 }
 
-// The same slot by the call on the whole frame; its areas are made where nothing else is done.
-fn compare(coded: &[u8; 5610]) {
-    let mut tables = [0u16; 827];
-    let sources = [0u8; 403370];
-    let mut frame = [0u8; 673200];
-    whole(coded, &mut tables, &sources, &mut frame);
-}
-
-fn code_by_slots(of_7: &[u16], of_3: &[u16], coded: &mut [u8]) {
-    let state = at_116(of_7, &[0u8; 4323], coded);
-    code_116(state, of_3, &[0u8; 2827], coded);
-}
-
 // Slot 116 by the calls on slots, and by the call on the whole frame.
 fn through_dummies() {
     let mut coded = [0u8; 5610];
@@ -115,8 +102,12 @@ fn through_dummies() {
     let mut of_3 = [0u16; 356];
     published::copy_table(7, &mut of_7);
     published::copy_table(3, &mut of_3);
-    code_by_slots(&of_7, &of_3, &mut coded);
-    compare(&coded);
+    let state = at_116(&of_7, &[0u8; 4323], &mut coded);
+    code_116(state, &of_3, &[0u8; 2827], &mut coded);
+    let mut tables = [0u16; 827];
+    let sources = [0u8; 403370];
+    let mut frame = [0u8; 673200];
+    whole(&coded, &mut tables, &sources, &mut frame);
 }
 
 // A frame without dummies is full behind slot 120.
