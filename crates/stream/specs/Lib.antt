@@ -1,0 +1,6 @@
+pub mod Laying
+pub mod Needs
+pub mod NullLaws
+pub mod Nulls
+pub mod SlotPackets
+pub mod SlotPacketsLaws

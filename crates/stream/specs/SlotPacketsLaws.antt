@@ -1,0 +1,126 @@
+-- Laws of slots and their packets: the sizes at a place, and that packets that were coded come back.
+use mathlib.Core.Path.{_≡_, refl, sym, ap, _∙_}
+use mathlib.Core.Bool.{true}
+use mathlib.Core.List.{List, _++_}
+use Prim.Native.Nat.{ℕ, _+_, _-_, _*_, _/_, _≤_}
+use native.Mathlib.Omega.{arith}
+use borrow.Author.Tests.{eq-eqb, eqb-true}
+use lib.Dec.{eqb}
+use lib.ListN.{length, take, drop, replicate, length-append, length-replicate}
+use lib.Seq.{drop-at, length-take-le}
+use Rattle.lists.specs.Runs.{Octets}
+use Rattle.lists.specs.Choice.{pick}
+use Rattle.lists.specs.ChoiceLaws.{then-zero, then-both, then-first, then-next, pick-yes}
+use Rattle.refusal.specs.Numbers.{LENGTH}
+use Rattle.plan.specs.declared.FrameState.{FrameState}
+use Rattle.plan.specs.Rates.{rateOk, rowsOf, dataBitsOf, dataOctetsOf, packetsOf}
+use Rattle.plan.specs.RateLaws.{rows-most, rate-sizes}
+use Rattle.plan.specs.Plans.{rateOf}
+use Rattle.plan.specs.PlanLaws.{accepted, group-values}
+use Rattle.plan.specs.Places.{groupAt}
+use Rattle.plan.specs.PlaceLaws.{group-holds}
+use Rattle.plan.specs.States.{planIn, stateNumber}
+use Rattle.plan.specs.StateLaws.{Ready}
+use Rattle.packets.specs.Packets.{packed, unpacked, packNumber, unpackNumber}
+use Rattle.packets.specs.PacketLaws.{pack-ready, length-packed, unpacked-packed, sized-yes}
+use Rattle.slot.specs.Slots.{messageBits, sourceOctets}
+use Rattle.slot.specs.Reading.{sourceOf}
+use Rattle.slot.specs.Calls.{rowsAt, dataNumber, slotNumber, codeAnswer, codeArea, readNumber, readAnswer, readArea}
+use Rattle.slot.specs.CallLaws.{at-data}
+use Rattle.slot.specs.RoundTrips.{Answers, code-then-read, slotNumber-lengths}
+use Rattle.stream.specs.SlotPackets.{rateAt, laid, laidNumber, roomNumber, codePacketsAnswer, codePacketsArea, slotAnswer, slotPackets, readPacketsAnswer, readPacketsArea}
+
+-- the state of a place with number 0 is one that a slot call takes
+pub place-taken : (s : FrameState) → dataNumber s ≡ 0 → stateNumber s ≡ 0
+unfolding dataNumber
+place-taken s h = then-zero (stateNumber s) _ h .0
+
+pub rate-known : (s : FrameState) → dataNumber s ≡ 0 → rateOk (rateAt s) ≡ true
+unfolding rateAt
+rate-known s h =
+    let p = planIn s in
+    let r = at-data s h .ready in
+    let a = accepted p (r .sound .plan) in
+    group-values p (groupAt p (s .slot)) a (group-holds p (s .slot) a (r .sound .numbered) (r .left) .group) .rate
+
+pub rows-of-rate : (s : FrameState) → rowsAt s ≡ rowsOf (rateAt s)
+unfolding rowsAt rateAt
+rows-of-rate s = refl
+
+-- header and data octets
+pub source-size : (r : ℕ) → sourceOctets (rowsOf r) ≡ 22 + dataOctetsOf r
+unfolding sourceOctets messageBits dataOctetsOf dataBitsOf
+source-size r = omega arith
+
+pub data-most : (r : ℕ) → dataOctetsOf r ≤ 5049
+unfolding dataOctetsOf dataBitsOf
+data-most r = omega (arith, rows-most r)
+
+pub packets-most : (r : ℕ) → packetsOf r ≤ 27
+unfolding packetsOf
+packets-most r = omega (arith, data-most r)
+
+pub source-at : (s : FrameState) → sourceOctets (rowsAt s) ≡ 22 + dataOctetsOf (rateAt s)
+source-at s = ap sourceOctets (rows-of-rate s) ∙ source-size (rateAt s)
+
+-- the numbers where the place is refused, and where it is not
+pub laid-first : (s : FrameState) (packets : List ℕ) → (dataNumber s ≡ 0 → ⊥) → laidNumber s packets ≡ dataNumber s
+unfolding laidNumber
+laid-first s packets d = then-first (dataNumber s) _ d
+
+pub laid-next : (s : FrameState) (rate : ℕ) (packets : List ℕ) → dataNumber s ≡ 0 → rate ≡ rateAt s
+    → packNumber rate packets (dataOctetsOf rate) ≡ laidNumber s packets
+unfolding laidNumber
+laid-next s rate packets h e = rw (e, then-next (dataNumber s) (packNumber (rateAt s) packets (dataOctetsOf (rateAt s))) h)
+
+-- of the area that reading is lent only the length counts
+pub slot-answer : (s : FrameState) (t coded source : List ℕ) → length source ≡ 22 + dataOctetsOf (rateAt s)
+    → readAnswer s t coded source ≡ slotAnswer s t coded
+unfolding slotAnswer readAnswer readNumber
+slot-answer s t coded source l =
+    let z = replicate {A = ℕ} (sourceOctets (rowsAt s)) 0 in
+    let e : slotNumber s t source coded ≡ slotNumber s t z coded =
+    slotNumber-lengths s t source coded z coded (l ∙ sym (source-at s) ∙ sym (length-replicate {A = ℕ} (sourceOctets (rowsAt s)) 0)) refl in
+    rw e
+
+-- unpacking what a place with number 0 gave is refused for nothing
+pub unpacks : (s : FrameState) (rate : ℕ) (octets : List ℕ) (room : ℕ) → dataNumber s ≡ 0 → rate ≡ rateAt s
+    → length octets ≡ dataOctetsOf rate → room ≡ 188 * packetsOf rate → unpackNumber rate octets room ≡ 0
+unfolding unpackNumber
+unpacks s rate octets room h e l k =
+    let known : rateOk rate ≡ true = rw e (rate-known s h) in
+    sized-yes rate room (length octets) (record { known = known; packets = k; octets = l ∙ rate-sizes rate known .packed })
+
+-- the numbers before reading where the place is refused, and where it is not
+pub room-first : (s : FrameState) (packets : List ℕ) → (dataNumber s ≡ 0 → ⊥) → roomNumber s packets ≡ dataNumber s
+unfolding roomNumber
+room-first s packets d = then-first (dataNumber s) _ d
+
+pub room-next : (s : FrameState) (packets : List ℕ) → dataNumber s ≡ 0
+    → roomNumber s packets ≡ pick (eqb (length packets) (188 * packetsOf (rateAt s))) 0 LENGTH
+unfolding roomNumber
+room-next s packets h = then-next (dataNumber s) _ h
+
+-- what a number 0 says
+pub record Room (s : FrameState) (packets : List ℕ) : Type 0 where
+  pub place : dataNumber s ≡ 0
+  pub long : length packets ≡ 188 * packetsOf (rateAt s)
+
+pub room : (s : FrameState) (packets : List ℕ) → roomNumber s packets ≡ 0 → Room s packets
+unfolding roomNumber
+room s packets h =
+    let a = then-zero (dataNumber s) _ h in
+    record { place = a .0; long = eqb-true (length packets) _ (pick-yes (eqb (length packets) (188 * packetsOf (rateAt s))) 0 3 (a .1) .0) }
+
+-- the part of the area for header and data octets that a rate takes
+pub source-within : (n r : ℕ) → n ≡ dataOctetsOf r → 22 + n ≤ length (replicate {A = ℕ} 5071 0)
+source-within n r e = omega (arith, length-replicate {A = ℕ} 5071 0, e, data-most r)
+
+pub source-taken : (n r : ℕ) → n ≡ dataOctetsOf r → length (take (22 + n - 0) (replicate {A = ℕ} 5071 0)) ≡ 22 + dataOctetsOf r
+source-taken n r e = length-take-le (22 + n - 0) (replicate {A = ℕ} 5071 0) (omega (arith, source-within n r e)) ∙ omega (arith, e)
+
+-- header and data octets of a slot that was accepted
+pub slot-source : (s : FrameState) (t coded source : List ℕ) → readAnswer s t coded source .number ≡ 0
+    → readArea s t coded source ≡ sourceOf (rowsAt s) (s .mask) (s .register) coded
+unfolding readAnswer readArea
+slot-source s t coded source h = rw (eq-eqb (readNumber s t coded source) 0 h)

@@ -1,0 +1,77 @@
+// Coding a slot from its header and its packets.
+ghost use mathlib.Core.Path.{_≡_};
+ghost use mathlib.Core.List.{_++_};
+ghost use Rattle.plan.specs.Rates.{dataOctetsOf, packetsOf};
+ghost use Rattle.packets.specs.Packets.{packed, packNumber};
+ghost use Rattle.stream.specs.Needs.{Laying, Coding};
+ghost use Rattle.stream.specs.SlotPackets.{codePacketsAnswer, codePacketsArea};
+use crate::HEADER;
+use crate::places::rate_at;
+use plan::Answer;
+use plan::FrameState;
+
+// Header and data octets of a slot, or the refusal of its packets.
+fn lay(rate: u16, header: &[u8], packets: &[u8], source: &mut [u8]) -> u8
+    requires { ⌜ Laying rate (now header) (now source) ⌝ }
+    ensures { λ r. ⌜ r ≡ packNumber rate (now (packets .entry)) (dataOctetsOf rate) ⌝ }
+    ensures { λ r. ⌜ (r ≡ 0 → now (source .exit) ≡ now (header .entry) ++ packed (packetsOf rate) (now (packets .entry))) ⌝ }
+{
+    let end = source.len();
+    let number = packets::pack(rate, packets, &mut source[HEADER..end]);
+    if number != 0 {
+        return number;
+    }
+    bits::copy(header, &mut source[0..HEADER]);
+    0
+}
+
+// Codes a slot by way of an area for its header and data octets.
+fn code_by(
+    state: FrameState,
+    rate: u16,
+    table: &[u16],
+    header: &[u8],
+    packets: &[u8],
+    source: &mut [u8],
+    coded: &mut [u8],
+) -> Answer
+    requires { ⌜ Coding state rate (now header) (now source) ⌝ }
+    ensures { λ r. ⌜ r ≡ codePacketsAnswer state (now (table .entry)) (now (header .entry)) (now (packets .entry)) (now (coded .entry)) ⌝ }
+    ensures { λ _. ⌜ now (coded .exit) ≡ codePacketsArea state (now (table .entry)) (now (header .entry)) (now (packets .entry)) (now (coded .entry)) ⌝ }
+{
+    let number = lay(rate, header, packets, source);
+    if number != 0 {
+        return Answer { number, state };
+    }
+    slot_coder::code_slot(state, table, source, coded)
+}
+
+// Codes header and packets into the 5,610 octets of the state's next slot: the state one slot on, or the refusal, the
+// state as it was and the area as it was.
+pub fn code_packets(
+    state: FrameState,
+    table: &[u16],
+    header: &[u8; 22],
+    packets: &[u8],
+    coded: &mut [u8],
+) -> Answer
+    ensures { λ r. ⌜ r ≡ codePacketsAnswer state (now (table .entry)) (now (header .entry)) (now (packets .entry)) (now (coded .entry)) ⌝ }
+    ensures { λ _. ⌜ now (coded .exit) ≡ codePacketsArea state (now (table .entry)) (now (header .entry)) (now (packets .entry)) (now (coded .entry)) ⌝ }
+{
+    let number = slot::data_number(state);
+    if number != 0 {
+        return Answer { number, state };
+    }
+    let rate = rate_at(state);
+    let end = HEADER + plan::data_octets(rate);
+    let mut source = [0u8; 5071];
+    code_by(
+        state,
+        rate,
+        table,
+        header,
+        packets,
+        &mut source[0..end],
+        coded,
+    )
+}
