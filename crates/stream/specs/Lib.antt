@@ -1,3 +1,4 @@
+pub mod Back
 pub mod Laying
 pub mod Needs
 pub mod NullLaws

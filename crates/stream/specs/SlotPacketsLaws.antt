@@ -1,34 +1,31 @@
 -- Laws of slots and their packets: the sizes at a place, and that packets that were coded come back.
 use mathlib.Core.Path.{_≡_, refl, sym, ap, _∙_}
 use mathlib.Core.Bool.{true}
-use mathlib.Core.List.{List, _++_}
-use Prim.Native.Nat.{ℕ, _+_, _-_, _*_, _/_, _≤_}
+use mathlib.Core.List.{List}
+use Prim.Native.Nat.{ℕ, _+_, _-_, _*_, _≤_}
 use native.Mathlib.Omega.{arith}
 use borrow.Author.Tests.{eq-eqb, eqb-true}
 use lib.Dec.{eqb}
-use lib.ListN.{length, take, drop, replicate, length-append, length-replicate}
-use lib.Seq.{drop-at, length-take-le}
-use Rattle.lists.specs.Runs.{Octets}
+use lib.ListN.{length, take, replicate, length-replicate}
+use lib.Seq.{length-take-le}
 use Rattle.lists.specs.Choice.{pick}
-use Rattle.lists.specs.ChoiceLaws.{then-zero, then-both, then-first, then-next, pick-yes}
+use Rattle.lists.specs.ChoiceLaws.{then-zero, then-first, then-next, pick-yes}
 use Rattle.refusal.specs.Numbers.{LENGTH}
 use Rattle.plan.specs.declared.FrameState.{FrameState}
 use Rattle.plan.specs.Rates.{rateOk, rowsOf, dataBitsOf, dataOctetsOf, packetsOf}
 use Rattle.plan.specs.RateLaws.{rows-most, rate-sizes}
-use Rattle.plan.specs.Plans.{rateOf}
 use Rattle.plan.specs.PlanLaws.{accepted, group-values}
 use Rattle.plan.specs.Places.{groupAt}
 use Rattle.plan.specs.PlaceLaws.{group-holds}
 use Rattle.plan.specs.States.{planIn, stateNumber}
-use Rattle.plan.specs.StateLaws.{Ready}
-use Rattle.packets.specs.Packets.{packed, unpacked, packNumber, unpackNumber}
-use Rattle.packets.specs.PacketLaws.{pack-ready, length-packed, unpacked-packed, sized-yes}
+use Rattle.packets.specs.Packets.{packed, packNumber, unpackNumber}
+use Rattle.packets.specs.PacketLaws.{sized-yes}
 use Rattle.slot.specs.Slots.{messageBits, sourceOctets}
 use Rattle.slot.specs.Reading.{sourceOf}
-use Rattle.slot.specs.Calls.{rowsAt, dataNumber, slotNumber, codeAnswer, codeArea, readNumber, readAnswer, readArea}
+use Rattle.slot.specs.Calls.{rowsAt, dataNumber, slotNumber, readNumber, readAnswer, readArea}
 use Rattle.slot.specs.CallLaws.{at-data}
-use Rattle.slot.specs.RoundTrips.{Answers, code-then-read, slotNumber-lengths}
-use Rattle.stream.specs.SlotPackets.{rateAt, laid, laidNumber, roomNumber, codePacketsAnswer, codePacketsArea, slotAnswer, slotPackets, readPacketsAnswer, readPacketsArea}
+use Rattle.slot.specs.RoundTrips.{slotNumber-lengths}
+use Rattle.stream.specs.SlotPackets.{rateAt, laidNumber, roomNumber, slotAnswer}
 
 -- the state of a place with number 0 is one that a slot call takes
 pub place-taken : (s : FrameState) → dataNumber s ≡ 0 → stateNumber s ≡ 0

@@ -1,11 +1,9 @@
 -- `stream::code_packets`: the place's number decides whether the packets are laid out at all.
-use mathlib.Core.Path.{_≡_, sym, ap, _∙_}
-use Prim.Native.Nat.{ℕ}
+use mathlib.Core.Path.{sym, _∙_}
 use native.Mathlib.Omega.{arith}
 use borrow.Author.Needs.{needs}
-use borrow.Author.Tests.{eq-eqb, ne-eqb}
-use lib.ListN.{length-replicate}
-use Rattle.stream.specs.SlotPackets.{laidNumber, codePacketsAnswer, codePacketsArea}
+use borrow.Author.Tests.{ne-eqb}
+use Rattle.stream.specs.SlotPackets.{codePacketsAnswer, codePacketsArea}
 use Rattle.stream.specs.SlotPacketsLaws.{laid-first, data-most, source-within, source-taken}
 use Rattle.stream.proofs.coding.code_packets.Statement.{statement}
 use Rattle.stream.proofs.coding.code_packets.Tie as tie

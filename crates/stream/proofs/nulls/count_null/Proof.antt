@@ -1,10 +1,8 @@
 -- `stream::count_null`: the null packets among those passed are counted.
 use mathlib.Core.Path.{_≡_, sym, ap, _∙_}
 use mathlib.Core.List.{List}
-use Prim.Native.Nat.{ℕ, _+_, _-_, _*_, _≤_}
+use Prim.Native.Nat.{ℕ, _-_, _*_, _≤_}
 use native.Mathlib.Omega.{arith}
-use borrow.Author.Needs.{needs}
-use borrow.Author.Tests.{eq-eqb, ne-eqb}
 use Rattle.stream.specs.Nulls.{isNullAt, nullsIn}
 use Rattle.stream.specs.NullLaws.{nulls-none, nulls-more, pick-few}
 use Rattle.stream.proofs.nulls.count_null.Statement.{statement}

@@ -1,7 +1,6 @@
 -- `stream::null_at`: the two tests of the PID.
 use borrow.Author.Needs.{needs}
 use borrow.Author.Tests.{eq-eqb, ne-eqb}
-use native.Mathlib.Omega.{arith}
 use Rattle.stream.proofs.nulls.null_at.Statement.{statement}
 use Rattle.stream.proofs.nulls.null_at.Tie as tie
 

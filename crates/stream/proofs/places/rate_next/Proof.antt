@@ -1,5 +1,4 @@
 -- `stream::rate_next`: the rate where there is a place.
-use mathlib.Core.Path.{sym, _∙_}
 use borrow.Author.Needs.{needs}
 use Rattle.stream.proofs.places.rate_next.Statement.{statement}
 use Rattle.stream.proofs.places.rate_next.Tie as tie

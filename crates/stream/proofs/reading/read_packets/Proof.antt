@@ -1,11 +1,9 @@
 -- `stream::read_packets`: the number before reading decides whether the slot is read at all.
-use mathlib.Core.Path.{_≡_, sym, ap, _∙_}
-use Prim.Native.Nat.{ℕ}
+use mathlib.Core.Path.{sym, _∙_}
 use native.Mathlib.Omega.{arith}
 use borrow.Author.Needs.{needs}
 use borrow.Author.Tests.{eq-eqb, ne-eqb}
-use lib.ListN.{length-replicate}
-use Rattle.stream.specs.SlotPackets.{roomNumber, readPacketsAnswer, readPacketsArea}
+use Rattle.stream.specs.SlotPackets.{readPacketsAnswer, readPacketsArea}
 use Rattle.stream.specs.SlotPacketsLaws.{Room, room, data-most, source-within, source-taken}
 use Rattle.stream.proofs.reading.read_packets.Statement.{statement}
 use Rattle.stream.proofs.reading.read_packets.Tie as tie
