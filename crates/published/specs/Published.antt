@@ -31,6 +31,10 @@ tableAt k = form (nth printed k)
 abbrev pub tableOf : ℕ → List ℕ
 tableOf rate = tableAt (rate - 1)
 
+-- its length; 0 for any other number
+unfoldable pub lengthOf : ℕ → ℕ
+lengthOf rate = pick (rateOk rate) (length (tableOf rate)) 0
+
 -- document 01, "Refusal list": 1 where the rate is unknown, then 4 where the area isn't exactly the table's length
 unfoldable pub copyNumber : ℕ → List ℕ → ℕ
 copyNumber rate area = andThen (pick (rateOk rate) 0 PLAN) (pick (eqb (length area) (length (tableOf rate))) 0 LENGTH)

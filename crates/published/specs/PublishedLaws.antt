@@ -4,7 +4,7 @@ use mathlib.Core.Bool.{true, false}
 use mathlib.Core.List.{List}
 use Prim.Native.Nat.{ℕ, _+_, _-_, _<_, _≤_}
 use native.Mathlib.Omega.{arith}
-use borrow.Author.Tests.{le-leb, lt-leb, eq-eqb, ne-eqb}
+use borrow.Author.Tests.{leb-true, le-leb, lt-leb, eq-eqb, ne-eqb}
 use lib.Dec.{leb}
 use lib.ListN.{length}
 use Rattle.lists.specs.ChoiceLaws.{and-both}
@@ -34,6 +34,14 @@ known-low rate h = rw (lt-leb 1 rate h)
 
 pub known-high : (rate : ℕ) → 11 < rate → rateOk rate ≡ false
 known-high rate h = rw (le-leb 1 rate (omega arith), lt-leb rate 11 h)
+
+-- no published table has more than 510 numbers
+all-short : every 11 (λ k. leb (length (tableAt k)) 510) ≡ true
+unfolding every tableAt form nth printed rate1 rate2 rate3 rate4 rate5 rate6 rate7 rate8 rate9 rate10 rate11
+all-short = refl
+
+pub table-short : (rate : ℕ) → 1 ≤ rate → rate ≤ 11 → length (tableOf rate) ≤ 510
+table-short rate l h = leb-true (length (tableOf rate)) 510 (every-at 11 (λ k. leb (length (tableAt k)) 510) all-short (rate - 1) (omega arith))
 
 module _ (rate : ℕ) (found : List ℕ) where
   pub number-unknown : rateOk rate ≡ false → copyNumber rate found ≡ 1

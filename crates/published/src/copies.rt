@@ -5,7 +5,7 @@ ghost use lib.ListN.{length};
 ghost use Rattle.lists.specs.Count.{joined};
 ghost use Rattle.lists.specs.CountLaws.{joinedAt};
 ghost use Rattle.refusal.specs.Answers.{Answered};
-ghost use Rattle.published.specs.Published.{tableAt, tableOf, copyNumber};
+ghost use Rattle.published.specs.Published.{tableAt, tableOf, lengthOf, copyNumber};
 use crate::data::STARTS;
 use crate::data::TABLES;
 
@@ -15,6 +15,22 @@ fn start(k: usize) -> usize
     ensures { λ r. ⌜ r ≡ joinedAt tableAt k ⌝ }
 {
     STARTS[k]
+}
+
+// The length of the published table of a rate; 0 for a number that is no rate's.
+pub fn table_length(rate: u16) -> usize
+    ensures { λ r. ⌜ r ≡ lengthOf rate ⌝ }
+    ensures { λ r. ⌜ r ≤ 510 ⌝ }
+{
+    if rate < 1 {
+        return 0;
+    }
+    if 11 < rate {
+        return 0;
+    }
+    let k = lists::index(rate) - 1;
+    let from = start(k);
+    start(k + 1) - from
 }
 
 fn copy(from: &[u16], to: &mut [u16])

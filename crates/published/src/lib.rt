@@ -1,5 +1,6 @@
-// The eleven published parity tables, and the call that copies one into a lent area.
+// The eleven published parity tables, the call that copies one into a lent area, and their lengths.
 mod copies;
 mod data;
 
 pub use copies::copy_table;
+pub use copies::table_length;
