@@ -1,11 +1,12 @@
 -- Laws of dispersing: length, bits, each bit, its own inverse, runs end to end, sums of three.
 use mathlib.Core.Path.{_≡_, refl, sym, ap, ap₂, _∙_}
 use mathlib.Core.List.{List, [], _∷_, _++_}
-use Prim.Native.Nat.{ℕ, zero, suc, _+_, _%_, _<_}
+use Prim.Native.Nat.{ℕ, zero, suc, _+_, _-_, _%_, _<_}
 use native.Mathlib.Nat.{not-suc-le-zero}
 use native.Mathlib.Numerals.{add-one}
 use native.Mathlib.Omega.{arith}
-use lib.ListN.{length, getD}
+use lib.ListN.{length, getD, take, drop}
+use Rattle.lists.specs.Parts.{part}
 use Rattle.lists.specs.Runs.{Bits}
 use Rattle.bits.specs.Sums.{added, addedThree}
 use Rattle.bits.specs.SumLaws.{length-added, added-assoc}
@@ -59,6 +60,26 @@ dispersed-append w mask r (b ∷ u) v =
     ap (λ (l : List ℕ). (b + top w r) % 2 ∷ l)
     (dispersed-append w mask (step w mask r) u v
     ∙ ap (λ (s : ℕ). dispersed w mask (step w mask r) u ++ dispersed w mask s v) e)
+
+-- the first bits of a run
+dispersed-take : (w mask r n : ℕ) (u : List ℕ) → take n (dispersed w mask r u) ≡ dispersed w mask r (take n u)
+unfolding dispersed
+dispersed-take w mask r zero u = refl
+dispersed-take w mask r (suc n) [] = refl
+dispersed-take w mask r (suc n) (b ∷ u) = ap (λ (l : List ℕ). (b + top w r) % 2 ∷ l) (dispersed-take w mask (step w mask r) n u)
+
+-- the others meet the register after those
+dispersed-drop : (w mask r n : ℕ) (u : List ℕ) → drop n (dispersed w mask r u) ≡ dispersed w mask (after w mask r n) (drop n u)
+unfolding dispersed
+dispersed-drop w mask r zero u = ap (λ (s : ℕ). dispersed w mask s u) (sym (after-none w mask r))
+dispersed-drop w mask r (suc n) [] = refl
+dispersed-drop w mask r (suc n) (b ∷ u) =
+    dispersed-drop w mask (step w mask r) n u
+    ∙ ap (λ (s : ℕ). dispersed w mask s (drop n u)) (sym (after-first w mask r n) ∙ ap (after w mask r) (add-one n))
+
+-- a part of a run meets the register after the bits before it
+pub dispersed-part : (w mask r a e : ℕ) (u : List ℕ) → part a e (dispersed w mask r u) ≡ dispersed w mask (after w mask r a) (part a e u)
+dispersed-part w mask r a e u = ap (take (e - a)) (dispersed-drop w mask r a u) ∙ dispersed-take w mask (after w mask r a) (e - a) (drop a u)
 
 sum-of-two : (a b t : ℕ) → ((a + t) % 2 + (b + t) % 2) % 2 ≡ (a + b) % 2
 sum-of-two a b t = omega arith
