@@ -1,7 +1,7 @@
--- Laws of eight steps at a time: a step is linear, so a register's parts can be stepped each alone; and the bits given
--- out are the register's own, from the top.
+-- Laws of eight steps at a time. A step is linear, so the parts of a register can be stepped each alone, and the results
+-- added. The bits given out are the register's own, from the top.
 use mathlib.Core.Path.{_≡_, refl, sym, ap, ap₂, _∙_}
-use mathlib.Core.List.{List, [], _∷_, _++_}
+use mathlib.Core.List.{List, [], _∷_}
 use Prim.Native.Nat.{ℕ, zero, suc, _+_, _-_, _*_, _/_, _%_, _^_, _≤_, _<_}
 use native.Mathlib.Nat.{add-mul, mul-one, mul-assoc, div-add-mod', mod-lt, mod-eq-of-lt}
 use native.Mathlib.Omega.{arith}
@@ -10,7 +10,6 @@ use lib.Bits.{bitAnd, bitXor, and-mod, and-shr, and-mask, and-zero-r, xor-mod, x
 use lib.Count.{ones, ones-step, ones-ones}
 use lib.ListN.{length, getD}
 use lib.Pow.{pow-add, pow-mono, pow-pos, shl-lt, shr-shr, field}
-use Rattle.lists.specs.Count.{table}
 use Rattle.lists.specs.CountLaws.{length-table, getD-table}
 use Rattle.lists.specs.Parts.{part}
 use Rattle.lists.specs.PartLaws.{length-part}
@@ -34,7 +33,7 @@ and-bit x zero h = and-zero-r (x % 2) ∙ omega arith
 and-bit x (suc zero) h = and-mask (x % 2) 1 ∙ omega arith
 and-bit x (suc (suc b)) h = absurd (omega arith)
 
--- the ones that register and mask share, the lowest place apart
+-- the ones that a register and the mask share: those at the lowest place, and the others
 shared-step : (x m : ℕ) → ones (bitAnd x m) ≡ x % 2 * (m % 2) + ones (bitAnd (x / 2) (m / 2))
 shared-step x m =
     ones-step (bitAnd x m)
@@ -43,14 +42,14 @@ shared-step x m =
 two-odd : (a c : ℕ) → (a % 2 + c % 2) % 2 ≡ (a + c) % 2
 two-odd a c = omega arith
 
--- with the mask's lowest bit b
+-- the sum of two counts modulo 2, the lowest place apart, where the mask has b
 odd-sum : (x y z b p q s : ℕ) → b < 2 → z % 2 ≡ (x + y) % 2 → s % 2 ≡ (p + q) % 2 → (z * b + s) % 2 ≡ (x * b + p + (y * b + q)) % 2
 odd-sum x y z zero p q s h d e = omega arith
 odd-sum x y z (suc zero) p q s h d e =
     rw (mul-one z, ← two-odd z s, d, e) (two-odd (x + y) (p + q) ∙ ap (λ (n : ℕ). n % 2) (omega arith))
 odd-sum x y z (suc (suc b)) p q s h d e = absurd (omega arith)
 
--- whether register and mask share an odd number of ones is linear
+-- whether a register and the mask share an odd number of ones is linear in the register
 odd-xor : (x y m : ℕ) → ones (bitAnd (bitXor x y) m) % 2 ≡ (ones (bitAnd x m) + ones (bitAnd y m)) % 2
 odd-xor =
     bin-ind (λ (x : ℕ). (y m : ℕ) → ones (bitAnd (bitXor x y) m) % 2 ≡ (ones (bitAnd x m) + ones (bitAnd y m)) % 2)
@@ -62,6 +61,7 @@ odd-xor =
     ∙ odd-sum (x % 2) (y % 2) (bitXor x y % 2) (m % 2) _ _ _ (omega arith) (omega (arith, xor-last x y)) h
     ∙ ap₂ (λ (n k : ℕ). (n + k) % 2) (sym (shared-step x m)) (sym (shared-step y m)))
 
+-- so is a step, and so are several
 step-xor : (w mask x y : ℕ) → step w mask (bitXor x y) ≡ bitXor (step w mask x) (step w mask y)
 unfolding step
 step-xor w mask x y =
@@ -133,7 +133,7 @@ jumped-is w mask r hw hr =
     let e₄ = entry 4 (r / 2 ^ 20) (omega arith) (omega arith) (omega arith) in
     more 0 _ _ (more 5 _ _ (more 10 _ _ (more 15 _ _ e₄ e₃) e₂) e₁) e₀ ∙ ap (λ (x : ℕ). after w mask x 8) (omega arith)
 
--- the bits that stand below the top n after a step stood one lower before it
+-- the top n bits after a step stood one place lower before it
 step-down : (w mask r n m : ℕ) → w ≡ n + suc m → digits n (step w mask r / 2 ^ suc m) ≡ digits n (r / 2 ^ m)
 unfolding step
 step-down w mask r n m e =

@@ -67,8 +67,8 @@ fn disperse_parts(width: u32, mask: u32, register: u32, table: &[u32; 160], run:
     disperse_bits(width, mask, held, &mut run[whole..end])
 }
 
-// Disperses the run in place, and answers the register after it. A register of less than eight bits has not the bits
-// of eight steps.
+// Disperses the run in place, and answers the register after it. A register of less than eight bits does not hold what
+// eight steps give out, so it goes bit by bit.
 pub fn disperse(width: u32, mask: u32, register: u32, run: &mut [u8]) -> u32
     requires { ⌜ Held width register ⌝ }
     ensures { λ r. ⌜ r ≡ after width mask register (length (now (run .entry))) ⌝ }

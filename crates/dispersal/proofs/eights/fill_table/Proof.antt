@@ -1,13 +1,13 @@
 -- `dispersal::eights::fill_table`: the area is filled with the table.
-use mathlib.Core.Path.{_≡_, sym, ap, _∙_}
-use Prim.Native.Nat.{ℕ, _-_, _<_}
+use mathlib.Core.Path.{sym, ap, _∙_}
+use Prim.Native.Nat.{ℕ, _-_}
 use native.Mathlib.Omega.{arith}
 use lib.ListN.{length}
 use borrow.Author.Needs.{needs}
 use Rattle.lists.specs.Filling.{Filling}
 use Rattle.lists.specs.FillingLaws.{filling-none, filling-more, filling-all}
 use Rattle.dispersal.specs.Register.{after}
-use Rattle.dispersal.specs.Eights.{five, eightsTable}
+use Rattle.dispersal.specs.Eights.{eightsTable}
 use Rattle.dispersal.specs.EightLaws.{five-lt, length-eights, eights-at}
 use Rattle.dispersal.proofs.eights.fill_table.Statement.{statement}
 use Rattle.dispersal.proofs.eights.fill_table.Tie as tie

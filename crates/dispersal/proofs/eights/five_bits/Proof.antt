@@ -1,5 +1,4 @@
 -- `dispersal::eights::five_bits`: the shifts as powers, with nothing shifted out.
-use mathlib.Core.Path.{_≡_}
 use Prim.Native.Nat.{_+_, _*_, _/_, _%_, _^_, _≤_, _<_}
 use native.Mathlib.Nat.{mod-eq-of-lt}
 use native.Mathlib.Omega.{arith}

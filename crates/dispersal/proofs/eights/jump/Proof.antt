@@ -1,4 +1,5 @@
 -- `dispersal::eights::jump`: the five entries are those of the definition.
+use mathlib.Core.Path.{refl}
 use borrow.Author.Needs.{needs}
 use Rattle.dispersal.specs.Eights.{jumped}
 use Rattle.dispersal.proofs.eights.jump.Statement.{statement}
@@ -6,7 +7,7 @@ use Rattle.dispersal.proofs.eights.jump.Tie as tie
 
 returns : tie.Need-returns
 unfolding jumped
-returns c = search needs
+returns c = refl
 
 pub jump-spec : {M : Type 1} → statement M
 jump-spec =
