@@ -2,7 +2,7 @@
 use mathlib.Core.Path.{_≡_, refl, sym, ap, _∙_}
 use mathlib.Core.List.{List}
 use Prim.Native.Nat.{ℕ, _+_, _*_, _%_, _<_}
-use native.Mathlib.Nat.{zero-add}
+use native.Mathlib.Nat.{zero-add, mod-lt, div-lt-iff-lt-mul}
 use native.Mathlib.Decide.{ℕ-discrete}
 use native.Mathlib.Omega.{arith}
 use borrow.Author.Tests.{eq-eqb, ne-eqb}
@@ -15,6 +15,8 @@ use Rattle.lists.specs.CountLaws.{sum-more, length-table, getD-table}
 use Rattle.ldpc.specs.Tables.{spacing, positions, rowStart}
 use Rattle.ldpc.specs.Parity.{bitTimes, rowTimes, timesTo, times, running, parityOf}
 use Rattle.ldpc.specs.ParityLaws.{rowTimes-more, timesTo-more, running-same, parityOf-is}
+use Rattle.ldpc.specs.Columns.{across}
+use Rattle.ldpc.specs.ColumnLaws.{across-back}
 use Rattle.ldpc.specs.Needs.{Added}
 
 -- nothing is added yet
@@ -62,24 +64,30 @@ timesTo-next rows t u j r s n n′ c k e d f g h = rw (d, f, g, h) (timesTo-more
 pub added-rows : (s₀ s : List ℕ) (rows : ℕ) (t u : List ℕ) {n n′ : ℕ} → n ≡ n′ → Added s₀ s (timesTo rows t u n) → Added s₀ s (timesTo rows t u n′)
 added-rows s₀ s rows t u e a = rw e at a
 
--- cleared sums, added to, are the counts modulo 2
-pub sums-times : (rows : ℕ) (t u s₀ s : List ℕ) → s₀ ≡ replicate (positions rows) 0 → Added s₀ s (times rows t u) → (j : ℕ) → j < positions rows
-    → getD s j 0 % 2 ≡ times rows t u j % 2
-sums-times rows t u s₀ s e a j h =
+-- cleared sums, added to, are what was added, modulo 2
+pub sums-times : (m : ℕ) (f : ℕ → ℕ) (s₀ s : List ℕ) → s₀ ≡ replicate m 0 → Added s₀ s f → (j : ℕ) → j < m → getD s j 0 % 2 ≡ f j % 2
+sums-times m f s₀ s e a j h =
     let l : j < length s₀ = rw (e, length-replicate) h in
-    a .at j l ∙ rw (e, getD-replicate {A = ℕ} (positions rows) j 0 0 h, zero-add)
+    a .at j l ∙ rw (e, getD-replicate {A = ℕ} m j 0 0 h, zero-add)
 
 -- the running sum, one position on
 pub carry-more : (last x : ℕ) (f : ℕ → ℕ) (j : ℕ) → last ≡ sum j f % 2 → x % 2 ≡ f j % 2 → (last + x) % 2 ≡ sum (j + 1) f % 2
 carry-more last x f j e h = omega (arith, sum-more j f)
 
--- the coder: cleared, added to, summed up
-pub coded : (rows : ℕ) (t u s₀ s s′ : List ℕ) → s₀ ≡ replicate (positions rows) 0 → Added s₀ s (times rows t u)
-    → s′ ≡ table (length s) (running (λ k. getD s k 0)) → s′ ≡ parityOf rows t u
-coded rows t u s₀ s s′ e a r =
-    let l : length s ≡ positions rows = a .same ∙ ap length e ∙ length-replicate {A = ℕ} (positions rows) 0 in
-    let w : length s′ ≡ positions rows = ap length r ∙ length-table (length s) _ ∙ l in
-    parityOf-is rows t u s′ w (λ j h.
-    ap (λ (x : List ℕ). getD x j 0) r
-    ∙ getD-table (length s) _ j (omega arith)
-    ∙ running-same (λ k. getD s k 0) (times rows t u) j (λ k i. sums-times rows t u s₀ s e a k (omega arith)))
+-- the coder: cleared, added to in columns, summed up in the order of the positions
+module _ (rows : ℕ) (t u columns₀ columns : List ℕ) (e : columns₀ ≡ replicate (positions rows) 0)
+    (a : Added columns₀ columns (λ n. times rows t u (across (spacing rows) 374 n))) where
+  sum-at : (p : ℕ) → p < positions rows → getD columns (across 374 (spacing rows) p) 0 % 2 ≡ times rows t u p % 2
+  sum-at p h =
+      let z : 0 < spacing rows = omega arith in
+      let c = mod-lt p z in
+      let d = div-lt-iff-lt-mul z .1 h in
+      sums-times (positions rows) (λ n. times rows t u (across (spacing rows) 374 n)) columns₀ columns e a (across 374 (spacing rows) p) (omega arith)
+      ∙ ap (λ (k : ℕ). times rows t u k % 2) (across-back (spacing rows) p h)
+
+  pub coded : (sums : List ℕ) → sums ≡ table (positions rows) (running (λ p. getD columns (across 374 (spacing rows) p) 0)) → sums ≡ parityOf rows t u
+  coded sums r =
+      parityOf-is rows t u sums (ap length r ∙ length-table (positions rows) _) (λ j h.
+      ap (λ (x : List ℕ). getD x j 0) r
+      ∙ getD-table (positions rows) _ j h
+      ∙ running-same (λ p. getD columns (across 374 (spacing rows) p) 0) (times rows t u) j (λ k i. sum-at k (omega arith)))

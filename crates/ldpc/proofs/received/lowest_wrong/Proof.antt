@@ -140,7 +140,7 @@ here c =
     let e : min (b .rows .r) (a .rows) ≡ a .rows = omega arith in
     let z = b .before .before .before .fill .ensures ∙ ap (λ (n : ℕ). replicate n 0) (s .pre .ready .room) in
     let d = added-rows _ _ (a .rows) (a .table .now) (a .bits .now) e (b .rows .inv .adding) in
-    let v = sums-times (a .rows) (a .table .now) (a .bits .now) _ (b .rows .sums) z d j (within (c .before .before)) in
+    let v = sums-times (positions (a .rows)) (times (a .rows) (a .table .now) (a .bits .now)) _ (b .rows .sums) z d j (within (c .before .before)) in
     carry-more (l .parity .last) (c .wide3 .result) (times (a .rows) (a .table .now) (a .bits .now)) j (l .parity .inv .carried) (ap (λ (n : ℕ). n % 2) (c .wide3 .ensures .0) ∙ v)
 
 -- the running sum at a position is the parity bit there

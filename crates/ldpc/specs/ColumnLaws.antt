@@ -1,0 +1,164 @@
+-- Laws of sums in columns: where a position stands, what one address adds to its column and to the others.
+use mathlib.Core.Path.{_≡_, refl, sym, ap, ap₂, _∙_}
+use mathlib.Core.List.{List, _++_}
+use Prim.Native.Nat.{ℕ, zero, suc, _+_, _*_, _-_, _%_, _/_, _<_, _≤_}
+use native.Mathlib.Nat.{mod-lt, mod-eq-of-lt, div-eq-of-lt, mul-add-mod-self-left, mul-add-div, div-add-mod, div-lt-iff-lt-mul, mul-comm, mul-add, mul-assoc, mul-left-comm, mul-le-mul-left}
+use native.Mathlib.Decide.{ℕ-discrete, decLt}
+use native.Mathlib.Omega.{arith}
+use borrow.Author.Tests.{eq-eqb, ne-eqb}
+use lib.ListN.{length, getD, take, drop, length-drop, List·getD-append}
+use lib.Seq.{length-take-le, getD-take, getD-drop, getD-append-add}
+use Rattle.lists.specs.Count.{sum}
+use Rattle.lists.specs.CountLaws.{sum-add, sum-same, sum-each}
+use Rattle.lists.specs.Parts.{part, put}
+use Rattle.ldpc.specs.Tables.{spacing, positions}
+use Rattle.ldpc.specs.Parity.{bitTimes, rowTimes}
+use Rattle.ldpc.specs.ParityLaws.{bitTimes-none, bitTimes-more}
+use Rattle.ldpc.specs.Columns.{across, turned, addressTimes}
+
+-- the number counted along the rows of what stands in place j of column c
+pub across-at : (a b c j : ℕ) → j < b → across a b (b * c + j) ≡ a * j + c
+across-at a b c j h =
+    let z : 0 < b = omega arith in
+    let r : (b * c + j) % b ≡ j = mul-add-mod-self-left b c j ∙ mod-eq-of-lt h in
+    let d : (b * c + j) / b ≡ c = mul-add-div z c j ∙ omega (arith, div-eq-of-lt h) in
+    ap₂ (λ (x y : ℕ). a * x + y) r d
+
+-- the place of a position holds that position
+pub across-back : (q p : ℕ) → p < 374 * q → across q 374 (across 374 q p) ≡ p
+across-back q p h =
+    let z : 0 < q = omega arith in
+    let b : p / q < 374 = div-lt-iff-lt-mul z .1 h in
+    across-at q 374 (p % q) (p / q) b ∙ div-add-mod p q
+
+-- place j of column c is one of the positions
+pub across-below : (q j c : ℕ) → j < 374 → c < q → q * j + c < 374 * q
+across-below q j c h k = let l : j + 1 ≤ 374 = omega arith in omega (arith, mul-le-mul-left q l, mul-add q j 1)
+
+-- two numbers of columns and places are the same only where both are
+across-same : (q x y u v : ℕ) → u < q → v < q → q * x + u ≡ q * y + v → (x ≡ y) × (u ≡ v)
+across-same q x y u v hu hv e =
+    let z : 0 < q = omega arith in
+    let r : u ≡ v = sym (mod-eq-of-lt hu) ∙ sym (mul-add-mod-self-left q x u) ∙ ap (λ (n : ℕ). n % q) e ∙ mul-add-mod-self-left q y v ∙ mod-eq-of-lt hv in
+    let a = mul-add-div z x u in
+    let b = mul-add-div z y v in
+    let d = ap (λ (n : ℕ). n / q) e in
+    (omega (arith, div-eq-of-lt hu, div-eq-of-lt hv), r)
+
+-- x times q, by the turns round a column and what is left
+turns : (q x : ℕ) → q * x ≡ 374 * q * (x / 374) + q * (x % 374)
+turns q x =
+    let d : ℕ = x / 374 in
+    ap (λ (n : ℕ). q * n) (sym (div-add-mod x 374))
+    ∙ mul-add q (374 * d) (x % 374)
+    ∙ ap (λ (n : ℕ). n + q * (x % 374)) (mul-left-comm q 374 d ∙ sym (mul-assoc 374 q d))
+
+-- a sum of which only term k is not 0
+sum-only : (n k : ℕ) (f : ℕ → ℕ) → k < n → ((i : ℕ) → i < n → (i ≡ k → ⊥) → f i ≡ 0) → sum n f ≡ f k
+unfolding sum
+sum-only zero k f h z = absurd (omega arith)
+sum-only (suc n) k f h z = go (ℕ-discrete k n) (λ l. sum-only n k f l (λ i j. z i (omega arith)))
+  where
+    go : Dec (k ≡ n) → (k < n → sum n f ≡ f k) → sum n f + f n ≡ f k
+    go (yes e) _ =
+        let s : sum n f ≡ n * 0 = sum-each n 0 f (λ i l. z i (omega arith) (λ d. absurd (omega arith))) in
+        rw e (omega arith)
+    go (no d) below = omega (arith, below (omega arith), z n (omega arith) (λ e. d (sym e)))
+
+-- what stands behind the first n
+getD-behind : (p r : List ℕ) (n k : ℕ) → length p ≡ n → getD (p ++ r) (n + k) 0 ≡ getD r k 0
+getD-behind p r n k e = rw e at (getD-append-add p r k 0)
+
+-- an element of a list that another was put into: before the place, in it, and behind it
+module _ (a : ℕ) (ys xs : List ℕ) (h : a + length ys ≤ length xs) where
+  front : length (take a xs) ≡ a
+  front = length-take-le a xs (omega arith)
+
+  pub getD-put-before : (i : ℕ) → i < a → getD (put a ys xs) i 0 ≡ getD xs i 0
+  unfolding put
+  getD-put-before i l = List·getD-append (take a xs) _ 0 i (omega (arith, front)) ∙ getD-take a xs i 0 l
+
+  pub getD-put-there : (k : ℕ) → k < length ys → getD (put a ys xs) (a + k) 0 ≡ getD ys k 0
+  unfolding put
+  getD-put-there k l = getD-behind (take a xs) _ a k front ∙ List·getD-append ys _ 0 k l
+
+  pub getD-put-behind : (k : ℕ) → getD (put a ys xs) (a + (length ys + k)) 0 ≡ getD xs (a + (length ys + k)) 0
+  unfolding put
+  getD-put-behind k =
+      getD-behind (take a xs) _ a (length ys + k) front
+      ∙ getD-behind ys _ (length ys) k refl
+      ∙ getD-drop (a + length ys) xs k 0
+      ∙ ap (λ (i : ℕ). getD xs i 0) (omega arith)
+
+-- a bit of a turned row, on both sides of the turn
+module _ (n : ℕ) (row : List ℕ) (l : length row ≡ 374) (h : n ≤ 374) where
+  end : length (drop (374 - n) row) ≡ n
+  end = length-drop (374 - n) row ∙ omega arith
+
+  turned-before : (j : ℕ) → j < n → getD (turned n row) j 0 ≡ getD row (374 - n + j) 0
+  turned-before j k = List·getD-append (drop (374 - n) row) _ 0 j (omega (arith, end)) ∙ getD-drop (374 - n) row j 0
+
+  turned-from : (k : ℕ) → k < 374 - n → getD (turned n row) (n + k) 0 ≡ getD row k 0
+  turned-from k j = getD-behind (drop (374 - n) row) _ n k end ∙ getD-take (374 - n) row k 0 j
+
+-- where the bits of a row go through an address
+module _ (q a : ℕ) (z : 0 < q) (h : a < 374 * q) where
+  pub turn-below : a / q < 374
+  turn-below = div-lt-iff-lt-mul z .1 h
+
+  -- document 01's position of bit m, "(address + m × q) mod M", is the place m further on in the column of the address
+  pub position-column : (m : ℕ) → (a + m * q) % (374 * q) ≡ q * ((a / q + m) % 374) + a % q
+  position-column m =
+      let x : ℕ = a / q + m in
+      let r : x % 374 + 1 ≤ 374 = omega arith in
+      let l : q * (x % 374) + a % q < 374 * q = omega (arith, mod-lt a z, mul-le-mul-left q r, mul-add q (x % 374) 1) in
+      let s = turns q x in
+      let e : a + m * q ≡ 374 * q * (x / 374) + (q * (x % 374) + a % q) = omega (arith, div-add-mod a q, mul-add q (a / q) m, mul-comm m q) in
+      rw e (mul-add-mod-self-left (374 * q) (x / 374) (q * (x % 374) + a % q) ∙ mod-eq-of-lt l)
+
+  -- the one bit that reaches place j of the column
+  only : (row : List ℕ) (j m : ℕ) → m < 374 → (a / q + m) % 374 ≡ j → addressTimes q row a (q * j + a % q) ≡ getD row m 0
+  unfolding addressTimes
+  only row j m l e =
+      sum-only 374 m _ l (λ i k d. rw (ne-eqb _ (q * j + a % q) (λ (w : (a + i * q) % (374 * q) ≡ q * j + a % q). d (other i k (across-same q _ j _ _ (mod-lt a z) (mod-lt a z) (sym (position-column i) ∙ w) .0)))))
+      ∙ rw (eq-eqb _ (q * j + a % q) (position-column m ∙ ap (λ (x : ℕ). q * x + a % q) e))
+    where
+      other : (i : ℕ) → i < 374 → (a / q + i) % 374 ≡ j → i ≡ m
+      other i k w = omega (arith, turn-below)
+
+  -- what the address adds to its column
+  pub address-there : (row : List ℕ) (j : ℕ) → length row ≡ 374 → j < 374 → addressTimes q row a (q * j + a % q) ≡ getD (turned (a / q) row) j 0
+  address-there row j l k = go (decLt j (a / q))
+    where
+      go : Dec (j < a / q) → addressTimes q row a (q * j + a % q) ≡ getD (turned (a / q) row) j 0
+      go (yes b) = only row j (374 - a / q + j) (omega arith) (omega (arith, turn-below)) ∙ sym (turned-before (a / q) row l (omega (arith, turn-below)) j b)
+      go (no b) =
+          let e : a / q + (j - a / q) ≡ j = omega arith in
+          only row j (j - a / q) (omega arith) (omega (arith, turn-below))
+          ∙ sym (turned-from (a / q) row l (omega (arith, turn-below)) (j - a / q) (omega arith))
+          ∙ ap (λ (i : ℕ). getD (turned (a / q) row) i 0) e
+
+  -- and nothing to the others
+  pub address-elsewhere : (row : List ℕ) (j c : ℕ) → c < q → (c ≡ a % q → ⊥) → addressTimes q row a (q * j + c) ≡ 0
+  unfolding addressTimes
+  address-elsewhere row j c k d =
+      sum-each 374 0 _ (λ i _. rw (ne-eqb _ (q * j + c) (λ (w : (a + i * q) % (374 * q) ≡ q * j + c). d (sym (across-same q _ j _ _ (mod-lt a z) k (sym (position-column i) ∙ w) .1)))))
+      ∙ omega arith
+
+-- a row's bits through its addresses, one address after the other
+module _ (rows : ℕ) (t u : List ℕ) (from base j : ℕ) where
+  pub row-none : rowTimes rows t u from 0 base 374 j ≡ 0
+  unfolding rowTimes
+  row-none = sum-each 374 0 _ (λ m _. bitTimes-none (positions rows) t from (m * spacing rows) (getD u (base + m) 0) j) ∙ omega arith
+
+  bit-at : (m : ℕ) → m < 374 → getD (part base (base + 374) u) m 0 ≡ getD u (base + m) 0
+  bit-at m h = getD-take (base + 374 - base) (drop base u) m 0 (omega arith) ∙ getD-drop base u m 0
+
+  pub row-more : (n : ℕ)
+      → rowTimes rows t u from (n + 1) base 374 j
+      ≡ rowTimes rows t u from n base 374 j + addressTimes (spacing rows) (part base (base + 374) u) (getD t (from + n) 0) j
+  unfolding rowTimes addressTimes
+  row-more n =
+      sum-same 374 _ _ (λ m h.
+      rw (bit-at m h) (bitTimes-more (positions rows) t from (m * spacing rows) (getD u (base + m) 0) j n ((getD t (from + n) 0 + m * spacing rows) % positions rows) refl))
+      ∙ sum-add 374 (λ m. bitTimes (positions rows) t from n (m * spacing rows) (getD u (base + m) 0) j) _
