@@ -11,7 +11,6 @@ pub use input::take;
 pub use notes::note;
 pub use notes::note_number;
 pub use notes::note_refusal;
-pub use notes::print_word;
 pub use notes::progress;
 pub use numbers::number;
 pub use output::begin;

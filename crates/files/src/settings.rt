@@ -4,7 +4,9 @@ use crate::input::open_input;
 use crate::input::take;
 use crate::notes::note;
 use crate::notes::note_refusal;
+use crate::notes::print_word;
 use crate::numbers::number;
+use libc::STDERR_FILENO;
 use plan::Answer;
 use plan::Plan;
 use plan_text::PlanRead;
@@ -63,7 +65,9 @@ fn open_plan(plan: Plan) -> Answer {
     }
     let opened = plan::open(plan, mask.value, start.value);
     if opened.number != 0 {
-        note_refusal(MASK, opened.number);
+        io::write_all(STDERR_FILENO, b"mask ");
+        print_word(STDERR_FILENO, MASK);
+        io::write_all(STDERR_FILENO, b" and start ");
         note_refusal(START, opened.number);
     }
     opened

@@ -1,4 +1,4 @@
-// Counts that the program is started with.
+// Numbers that the program is started with.
 
 // The number that decimal digits make, up to six of them.
 fn number(digits: &[u8]) -> u64 {
@@ -11,12 +11,12 @@ fn number(digits: &[u8]) -> u64 {
     made
 }
 
-// The count that an argument says, or 2 where there is none.
-pub fn count(place: usize) -> u64 {
+// The number that an argument says, or another where there is none.
+pub fn number_or(place: usize, other: u64) -> u64 {
     let mut word = [0u8; 16];
     let length = os::arg(place, &mut word);
     if length == 0 {
-        return 2;
+        return other;
     }
     number(&word[..length])
 }

@@ -1,18 +1,39 @@
 // Codes and reads slots at rates 1, 7 and 11, as many as the first and the second argument say, and whole frames, as many as
-// the third and the fourth say, or 2 of each: work to be timed.
+// the third and the fourth say, or 2 of each: work to be timed. A fifth argument names the one rate that is worked on.
 mod arguments;
 mod frames;
 mod work;
 
+use arguments::number_or;
+
+const COUNT: u64 = 2;
+
+// Whether a rate is worked on.
+fn chosen(rate: u16) -> bool {
+    let only = number_or(5, 0);
+    if only == 0 {
+        return true;
+    }
+    only == rate as u64
+}
+
+fn slots_of(rate: u16) {
+    if chosen(rate) {
+        work::of_rate(rate, number_or(1, COUNT), number_or(2, COUNT));
+    }
+}
+
+fn frames_of(rate: u16) {
+    if chosen(rate) {
+        frames::of_rate(rate, number_or(3, COUNT), number_or(4, COUNT));
+    }
+}
+
 fn main() {
-    let coded = arguments::count(1);
-    let read = arguments::count(2);
-    work::of_rate(1, coded, read);
-    work::of_rate(7, coded, read);
-    work::of_rate(11, coded, read);
-    let coded_frames = arguments::count(3);
-    let read_frames = arguments::count(4);
-    frames::of_rate(1, coded_frames, read_frames);
-    frames::of_rate(7, coded_frames, read_frames);
-    frames::of_rate(11, coded_frames, read_frames);
+    slots_of(1);
+    slots_of(7);
+    slots_of(11);
+    frames_of(1);
+    frames_of(7);
+    frames_of(11);
 }

@@ -1,4 +1,4 @@
-//! The work of the program `slot_bench`, by the loops of document 002 or by those of the proved code.
+//! The work of the program `slot_bench`, by the loops of document 002 or by straight loops over one octet a bit.
 use crate::plan::SLOTS;
 use crate::quick::{Areas, Loops};
 use crate::samples::{digest, octets, MASK, START};
@@ -97,8 +97,8 @@ fn both_lines(way: &mut impl Way, rate: usize, octet_count: usize, counts: Count
     (slot_line(way, rate, octet_count, counts), frame_line(way, rate, octet_count, counts))
 }
 
-fn lines(quick: bool, counts: Counts) -> Vec<String> {
-    let of_rate = |rate: usize| {
+fn lines(quick: bool, counts: Counts, rates: &[usize]) -> Vec<String> {
+    let of_rate = |&rate: &usize| {
         let code = Code::new(tables().swap_remove(rate - 1));
         let count = code.message_bits() / 8;
         if quick {
@@ -107,12 +107,12 @@ fn lines(quick: bool, counts: Counts) -> Vec<String> {
             both_lines(&mut Plain(&code), rate, count, counts)
         }
     };
-    let (slots, frames): (Vec<_>, Vec<_>) = [1, 7, 11].map(of_rate).into_iter().unzip();
+    let (slots, frames): (Vec<_>, Vec<_>) = rates.iter().map(of_rate).unzip();
     slots.into_iter().chain(frames).collect()
 }
 
-pub fn print(quick: bool, counts: Counts) {
-    for line in lines(quick, counts) {
+pub fn print(quick: bool, counts: Counts, rates: &[usize]) {
+    for line in lines(quick, counts, rates) {
         println!("{line}");
     }
 }
@@ -124,6 +124,6 @@ mod tests {
     #[test]
     fn both_ways_agree() {
         let counts = Counts { coded: 3, read: 2, coded_frames: 1, read_frames: 1 };
-        assert_eq!(lines(true, counts), lines(false, counts));
+        assert_eq!(lines(true, counts, &[1, 7, 11]), lines(false, counts, &[1, 7, 11]));
     }
 }

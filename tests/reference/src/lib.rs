@@ -13,6 +13,7 @@ pub mod plan;
 pub mod quick;
 pub mod samples;
 pub mod slot;
+pub mod stream;
 pub mod symbols;
 pub mod tables;
 pub mod tmcc;

@@ -2,9 +2,12 @@
 //!
 //!     reference vectors             the lines that the program slot_vectors must write
 //!     reference frames              lines of whole frames and TMCC blocks, coded, read back and read when damaged
-//!     reference bench COUNTS        the work of the program slot_bench: slots coded and read, frames coded and read
-//!     reference quick COUNTS        the same work by the loops of the proved code, for the benchmark alone
-use reference::{bench, frames, vectors};
+//!     reference bench COUNTS RATES  the work of the program slot_bench: slots coded and read, frames coded and read, at
+//!                                   rates 1, 7 and 11 where none is named
+//!     reference stream PLAN MASK START PACKETS FRAMES [HEADERS]
+//!                                   the frames of a file of packets, as the program framer writes them
+//!     reference quick COUNTS RATES  the same work by straight loops over one octet a bit, for the benchmark alone
+use reference::{bench, frames, stream, vectors};
 
 fn main() {
     let words: Vec<String> = std::env::args().skip(1).collect();
@@ -12,11 +15,14 @@ fn main() {
     match words[..] {
         ["vectors"] => vectors::print(),
         ["frames"] => frames::print(),
-        [way @ ("bench" | "quick"), coded, read, coded_frames, read_frames] => {
+        ["stream", ref files @ ..] => stream::write(files),
+        [way @ ("bench" | "quick"), coded, read, coded_frames, read_frames, ref rates @ ..] => {
             let [coded, read, coded_frames, read_frames] =
                 [coded, read, coded_frames, read_frames].map(|word| word.parse().expect("a count"));
-            bench::print(way == "quick", bench::Counts { coded, read, coded_frames, read_frames })
+            let rates: Vec<usize> = rates.iter().map(|word| word.parse().expect("a rate")).collect();
+            let rates = if rates.is_empty() { vec![1, 7, 11] } else { rates };
+            bench::print(way == "quick", bench::Counts { coded, read, coded_frames, read_frames }, &rates)
         }
-        _ => panic!("reference vectors, frames, or bench or quick with four counts"),
+        _ => panic!("reference vectors, frames, stream with files, or bench or quick with four counts and rates"),
     }
 }

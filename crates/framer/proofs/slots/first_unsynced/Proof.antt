@@ -1,0 +1,28 @@
+-- `framer::first_unsynced`: packets are counted as their octets are passed.
+use Prim.Native.Nat.{_-_, _≤_}
+use native.Mathlib.Omega.{arith}
+use lib.ListN.{length}
+use borrow.Author.Needs.{needs}
+use Rattle.framer.proofs.slots.first_unsynced.Statement.{statement}
+use Rattle.framer.proofs.slots.first_unsynced.Tie as tie
+
+abbrev Inv-loop : tie.InvT-loop
+Inv-loop packets at₀ i₀ at i = i ≤ at
+
+abbrev μ-loop : tie.MeasureT-loop
+μ-loop packets at₀ i₀ at i = length packets - at
+
+pub first-unsynced-spec : {M : Type 1} → statement M
+first-unsynced-spec =
+    tie.close
+    (tie.spec
+    Inv-loop
+    μ-loop
+    (λ c. search needs)
+    (λ c. search needs)
+    (λ c. search needs)
+    (λ c. search needs)
+    (λ c. search needs)
+    (λ c. search needs)
+    (λ c. search needs)
+    (λ c. search needs))

@@ -1,0 +1,10 @@
+-- What the functions ask of their arguments.
+use mathlib.Core.Path.{_≡_}
+use mathlib.Core.List.{List}
+use Prim.Native.Nat.{ℕ}
+use lib.ListN.{length}
+
+-- areas for a table and for the packets of any slot
+pub record Areas (table packets : List ℕ) : Type 0 where
+  pub numbers : length table ≡ 510
+  pub octets : length packets ≡ 5076

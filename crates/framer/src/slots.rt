@@ -1,0 +1,195 @@
+// One slot of a frame: its header and packets read, the slot coded and written.
+ghost use mathlib.Core.Path.{_≡_};
+ghost use lib.ListN.{length};
+ghost use Rattle.framer.specs.Needs.{Areas};
+use plan::FrameState;
+
+// The files that are open: below 0 for headers stands for headers of zeros.
+pub struct Files {
+    pub packets: i32,
+    pub headers: i32,
+    pub frames: i32,
+}
+
+// What became of a slot: whether all went well, whether the packets had ended before its frame began, the state after it,
+// and how many packets it took from the file and how many null packets fill it.
+pub struct Step {
+    pub ok: bool,
+    pub ended: bool,
+    pub state: FrameState,
+    pub packets: usize,
+    pub nulls: usize,
+}
+
+// A slot that was not made: the packets had ended, or something went wrong.
+fn none(state: FrameState, ended: bool) -> Step {
+    Step {
+        ok: ended,
+        ended,
+        state,
+        packets: 0,
+        nulls: 0,
+    }
+}
+
+// Writes a slot's octets.
+fn written(files: Files, octets: &[u8]) -> bool {
+    if io::write_all(files.frames, octets) {
+        return true;
+    }
+    os::fail(b"framer: writing frames");
+    false
+}
+
+// Reads the next header, or leaves the zeros where no file has any.
+fn read_header(files: Files, header: &mut [u8; 22]) -> bool {
+    if files.headers < 0 {
+        return true;
+    }
+    let got = files::take(files.headers, header);
+    if got.failed {
+        files::note(6, b"cannot be read");
+        return false;
+    }
+    if got.octets == 22 {
+        return true;
+    }
+    files::note(6, b"ends before the last data slot");
+    false
+}
+
+// The first packet that does not begin with the sync octet, counted from 0, or how many there are.
+fn first_unsynced(packets: &[u8]) -> usize {
+    let mut at: usize = 0;
+    let mut i: usize = 0;
+    while at < packets.len() {
+        if packets[at] != 0x47 {
+            return i;
+        }
+        at += 188;
+        i += 1;
+    }
+    i
+}
+
+// Tells of packets that the slot coder refused.
+fn refused(number: u8, passed: u64, packets: &[u8]) {
+    files::note_refusal(4, number);
+    if number == refusal::SYNC {
+        let at = first_unsynced(packets) as u64;
+        let place = std::num::wrapping_add_u64(passed, at);
+        files::note_number(
+            4,
+            b"packet ",
+            place,
+            b", counted from 0, does not begin 0x47",
+        );
+    }
+}
+
+// Codes packets behind a header with the published table of the place, and writes the slot.
+fn put_slot(
+    state: FrameState,
+    files: Files,
+    passed: u64,
+    table: &mut [u16],
+    header: &[u8; 22],
+    packets: &[u8],
+    coded: &mut [u8],
+) -> Step
+    requires { ⌜ length (now table) ≡ 510 ⌝ }
+{
+    let rate = stream::rate_next(state);
+    let numbers = published::table_length(rate);
+    published::copy_table(rate, &mut table[0..numbers]);
+    let answer = stream::code_packets(state, &table[0..numbers], header, packets, coded);
+    if answer.number != 0 {
+        refused(answer.number, passed, packets);
+        return none(state, false);
+    }
+    let next = answer.state;
+    Step {
+        ok: written(files, coded),
+        ended: false,
+        state: next,
+        packets: 0,
+        nulls: 0,
+    }
+}
+
+// Makes a data slot of what the packets' file has next, filled with null packets where it ends.
+fn fill_slot(
+    state: FrameState,
+    files: Files,
+    passed: u64,
+    table: &mut [u16],
+    packets: &mut [u8],
+    coded: &mut [u8],
+) -> Step
+    requires { ⌜ length (now table) ≡ 510 ⌝ }
+{
+    let got = files::take(files.packets, packets);
+    if got.failed {
+        files::note(4, b"cannot be read");
+        return none(state, false);
+    }
+    let octets = got.octets;
+    if octets % 188 != 0 {
+        files::note(4, b"ends inside a packet");
+        return none(state, false);
+    }
+    if octets == 0 {
+        if state.slot == 1 {
+            return none(state, true);
+        }
+    }
+    let end = packets.len();
+    stream::fill_null(&mut packets[octets..end]);
+    let mut header = [0u8; 22];
+    if !read_header(files, &mut header) {
+        return none(state, false);
+    }
+    let step = put_slot(state, files, passed, table, &header, packets, coded);
+    let next = step.state;
+    Step {
+        ok: step.ok,
+        ended: false,
+        state: next,
+        packets: octets / 188,
+        nulls: (end - octets) / 188,
+    }
+}
+
+// Passes a dummy, which is written as zeros.
+fn pass_slot(state: FrameState, files: Files) -> Step {
+    let zeros = [0u8; 5610];
+    let answer = plan::pass(state);
+    let next = answer.state;
+    Step {
+        ok: written(files, &zeros),
+        ended: false,
+        state: next,
+        packets: 0,
+        nulls: 0,
+    }
+}
+
+// Makes the next slot of a frame, before which so many packets were read. The areas hold a table, a slot's packets and
+// a slot.
+pub fn make_slot(
+    state: FrameState,
+    files: Files,
+    passed: u64,
+    table: &mut [u16],
+    packets: &mut [u8],
+    coded: &mut [u8],
+) -> Step
+    requires { ⌜ Areas (now table) (now packets) ⌝ }
+{
+    let count = stream::packets_next(state);
+    if count == 0 {
+        return pass_slot(state, files);
+    }
+    let end = 188 * count;
+    fill_slot(state, files, passed, table, &mut packets[0..end], coded)
+}

@@ -1,0 +1,138 @@
+// One slot of a frame: read from the file, and its packets written where it is accepted.
+ghost use mathlib.Core.Path.{_≡_};
+ghost use Prim.Native.Nat.{_*_};
+ghost use lib.ListN.{length};
+ghost use Rattle.monitor.specs.Needs.{Areas, Slot};
+use plan::FrameState;
+
+// The files that are open.
+pub struct Files {
+    pub frames: i32,
+    pub packets: i32,
+}
+
+// What became of a slot: whether the files went well, whether the frames had ended before it, its answer, the state after
+// it, the packets that the plan has it carry, and those that were written, with the null packets among them.
+pub struct Step {
+    pub ok: bool,
+    pub ended: bool,
+    pub answer: u8,
+    pub state: FrameState,
+    pub planned: usize,
+    pub written: usize,
+    pub nulls: usize,
+}
+
+// A slot that was not read: the frames had ended, or something went wrong.
+fn none(state: FrameState, ended: bool) -> Step {
+    Step {
+        ok: ended,
+        ended,
+        answer: 0,
+        state,
+        planned: 0,
+        written: 0,
+        nulls: 0,
+    }
+}
+
+// A slot that gives no packets: a dummy, or one that is refused.
+fn without_packets(state: FrameState, answer: u8, planned: usize) -> Step {
+    Step {
+        ok: true,
+        ended: false,
+        answer,
+        state,
+        planned,
+        written: 0,
+        nulls: 0,
+    }
+}
+
+// Writes the packets of an accepted slot.
+fn put_packets(state: FrameState, files: Files, count: usize, packets: &[u8]) -> Step
+    requires { ⌜ length (now packets) ≡ 188 * count ⌝ }
+{
+    if io::write_all(files.packets, packets) {
+        return Step {
+            ok: true,
+            ended: false,
+            answer: 0,
+            state,
+            planned: count,
+            written: count,
+            nulls: stream::count_null(count, packets),
+        };
+    }
+    os::fail(b"monitor: writing packets");
+    none(state, false)
+}
+
+// Reads a data slot with the published table of the place.
+fn data_slot(
+    state: FrameState,
+    files: Files,
+    count: usize,
+    table: &mut [u16],
+    coded: &[u8],
+    packets: &mut [u8],
+) -> Step
+    requires { ⌜ Slot count (now table) (now packets) ⌝ }
+{
+    let rate = stream::rate_next(state);
+    let numbers = published::table_length(rate);
+    published::copy_table(rate, &mut table[0..numbers]);
+    let answer = stream::read_packets(state, &table[0..numbers], coded, packets);
+    let next = answer.state;
+    if answer.number != 0 {
+        return without_packets(next, answer.number, count);
+    }
+    put_packets(next, files, count, packets)
+}
+
+// Reads the slot of a state from its octets.
+fn read_slot(
+    state: FrameState,
+    files: Files,
+    table: &mut [u16],
+    coded: &[u8],
+    packets: &mut [u8],
+) -> Step
+    requires { ⌜ Areas (now table) (now packets) ⌝ }
+{
+    let count = stream::packets_next(state);
+    if count == 0 {
+        let passed = plan::pass(state);
+        let next = passed.state;
+        return without_packets(next, refusal::DUMMY, 0);
+    }
+    let end = 188 * count;
+    data_slot(state, files, count, table, coded, &mut packets[0..end])
+}
+
+// Takes the next slot of a frame from the file. The areas hold a table, a slot's packets and a slot.
+pub fn next_slot(
+    state: FrameState,
+    files: Files,
+    table: &mut [u16],
+    packets: &mut [u8],
+    coded: &mut [u8; 5610],
+) -> Step
+    requires { ⌜ Areas (now table) (now packets) ⌝ }
+{
+    let got = files::take(files.frames, coded);
+    if got.failed {
+        files::note(4, b"cannot be read");
+        return none(state, false);
+    }
+    if got.octets == 0 {
+        if state.slot == 1 {
+            return none(state, true);
+        }
+    }
+    if got.octets != 5610 {
+        files::note(4, b"ends inside a frame");
+        return none(state, false);
+    }
+    read_slot(state, files, table, coded, packets)
+}
