@@ -117,12 +117,15 @@ fn code_frames(
     tally
 }
 
-// Makes all frames from the state at slot 1.
-pub fn code_all(opened: FrameState, files: Files) -> Tally {
-    let mut table = [0u16; 510];
-    let mut packets = [0u8; 5076];
-    let mut coded = [0u8; 5610];
-    let tally = code_frames(opened, files, &mut table, &mut packets, &mut coded);
+// The same with the areas as arrays, and then what only the end shows: that there were packets, and no header is left.
+fn finished(
+    opened: FrameState,
+    files: Files,
+    table: &mut [u16; 510],
+    packets: &mut [u8; 5076],
+    coded: &mut [u8; 5610],
+) -> Tally {
+    let tally = code_frames(opened, files, table, packets, coded);
     if !tally.ok {
         return tally;
     }
@@ -131,4 +134,12 @@ pub fn code_all(opened: FrameState, files: Files) -> Tally {
         return stopped(tally, false);
     }
     stopped(tally, headers_end(files))
+}
+
+// Makes all frames from the state at slot 1.
+pub fn code_all(opened: FrameState, files: Files) -> Tally {
+    let mut table = [0u16; 510];
+    let mut packets = [0u8; 5076];
+    let mut coded = [0u8; 5610];
+    finished(opened, files, &mut table, &mut packets, &mut coded)
 }

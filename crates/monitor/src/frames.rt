@@ -162,12 +162,15 @@ fn read_frames(
     total
 }
 
-// Reads all frames from the state at slot 1.
-pub fn read_all(opened: FrameState, files: Files) -> Tally {
-    let mut table = [0u16; 510];
-    let mut packets = [0u8; 5076];
-    let mut coded = [0u8; 5610];
-    let total = read_frames(opened, files, &mut table, &mut packets, &mut coded);
+// The same with the areas as arrays, and then what only the end shows: that there were frames.
+fn finished(
+    opened: FrameState,
+    files: Files,
+    table: &mut [u16; 510],
+    packets: &mut [u8; 5076],
+    coded: &mut [u8; 5610],
+) -> Tally {
+    let total = read_frames(opened, files, table, packets, coded);
     if !total.ok {
         return total;
     }
@@ -176,4 +179,12 @@ pub fn read_all(opened: FrameState, files: Files) -> Tally {
         return stopped(total, false);
     }
     total
+}
+
+// Reads all frames from the state at slot 1.
+pub fn read_all(opened: FrameState, files: Files) -> Tally {
+    let mut table = [0u16; 510];
+    let mut packets = [0u8; 5076];
+    let mut coded = [0u8; 5610];
+    finished(opened, files, &mut table, &mut packets, &mut coded)
 }
