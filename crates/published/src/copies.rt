@@ -22,15 +22,12 @@ pub fn table_length(rate: u16) -> usize
     ensures { λ r. ⌜ r ≡ lengthOf rate ⌝ }
     ensures { λ r. ⌜ r ≤ 510 ⌝ }
 {
-    if rate < 1 {
-        return 0;
+    if plan::known(rate, 11) {
+        let k = lists::index(rate) - 1;
+        let from = start(k);
+        return start(k + 1) - from;
     }
-    if 11 < rate {
-        return 0;
-    }
-    let k = lists::index(rate) - 1;
-    let from = start(k);
-    start(k + 1) - from
+    0
 }
 
 fn copy(from: &[u16], to: &mut [u16])

@@ -1,50 +1,54 @@
 -- `published::table_length`: the table lies between two starts.
-use mathlib.Core.Path.{_≡_, ap, _∙_}
+use mathlib.Core.Path.{_≡_, sym, ap, _∙_}
 use Prim.Native.Nat.{ℕ, _+_, _-_}
 use native.Mathlib.Omega.{arith}
 use borrow.Author.Needs.{needs}
 use lib.ListN.{length}
 use Rattle.lists.specs.CountLaws.{joinedAt, sum-more}
+use Rattle.plan.specs.RateLaws.{Between, between}
 use Rattle.published.specs.Published.{tableAt, tableOf, lengthOf}
-use Rattle.published.specs.PublishedLaws.{known-yes, known-low, known-high, table-short}
+use Rattle.published.specs.PublishedLaws.{table-short}
 use Rattle.published.proofs.copies.table_length.Statement.{statement}
 use Rattle.published.proofs.copies.table_length.Tie as tie
 
-returns : tie.Need-returns
-unfolding lengthOf
-returns c = (rw (known-low (c .before .args .rate) (c .if1 .taken)), omega arith)
-
-returns-2 : tie.Need-returns-2
-unfolding lengthOf
-returns-2 c = (rw (known-high (c .before .before .args .rate) (c .if2 .taken)), omega arith)
+-- a known rate
+known : (c : tie.Then1) → Between 1 11 (c .before .before .args .rate)
+known c = between 1 11 _ (sym (c .before .known .ensures) ∙ c .if1 .taken)
 
 -- from its start the table reaches to the next
 reaches : (c : tie.After-start2)
     → c .start2 .result ≡ c .before .start .result + length (tableOf (c .before .before .before .before .before .args .rate))
 reaches c =
-    let s = c .before .before .before .before .before in
-    let e : c .before .before .index .result - 1 ≡ s .args .rate - 1 = ap (λ (n : ℕ). n - 1) (c .before .before .index .ensures .0) in
+    let t = c .before .before .before in
+    let rate = t .before .before .args .rate in
+    let e : c .before .before .index .result - 1 ≡ rate - 1 = ap (λ (n : ℕ). n - 1) (c .before .before .index .ensures .0) in
     let f = c .before .start .ensures ∙ ap (joinedAt tableAt) e in
     let g = c .start2 .ensures ∙ ap (λ (n : ℕ). joinedAt tableAt (n + 1)) e in
-    omega (arith, f, g, sum-more (s .args .rate - 1) (λ i. length (tableAt i)))
+    omega (arith, f, g, sum-more (rate - 1) (λ i. length (tableAt i)))
 
-returns-3 : tie.Need-returns-3
+returns : tie.Need-returns
 unfolding lengthOf
-returns-3 c =
-    let rate = c .before .before .before .before .before .args .rate in
+returns c =
+    let t = c .before .before .before in
+    let k = known t in
+    let rate = t .before .before .args .rate in
     let e : c .start2 .result - c .before .start .result ≡ length (tableOf rate) = omega (arith, reaches c) in
-    (rw (known-yes rate (search needs) (search needs)) e, omega (arith, e, table-short rate (search needs) (search needs)))
+    (rw (← t .before .known .ensures, t .if1 .taken) e, omega (arith, e, table-short rate (k .low) (k .high)))
+
+returns-2 : tie.Need-returns-2
+unfolding lengthOf
+returns-2 c = (rw (← c .before .known .ensures, c .if1 .left), omega arith)
 
 pub table-length-spec : {M : Type 1} → statement M
 table-length-spec =
     tie.close
     (tie.spec
-    returns
-    returns-2
     (λ c κs. search needs)
+    (λ c κs. search needs)
+    (λ c. omega (arith, known (c .before), c .index .ensures))
+    (λ c κs. omega (arith, known (c .before), c .index .ensures))
     (λ c. search needs)
-    (λ c κs. search needs)
-    (λ c. search needs)
-    (λ c κs. search needs)
+    (λ c κs. omega (arith, known (c .before .before), c .before .index .ensures))
     (λ c. omega (arith, reaches c))
-    returns-3)
+    returns
+    returns-2)
