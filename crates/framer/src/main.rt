@@ -56,13 +56,21 @@ fn with_inputs(state: FrameState, headers: i32) {
     code(state, files);
 }
 
+fn usage() {
+    io::write_all(
+        STDERR_FILENO,
+        b"usage: framer PLAN MASK START PACKETS FRAMES [HEADERS]\n",
+    );
+}
+
 fn main() {
     let words = os::arg_count();
     if words < 6 {
-        io::write_all(
-            STDERR_FILENO,
-            b"usage: framer PLAN MASK START PACKETS FRAMES [HEADERS]\n",
-        );
+        usage();
+        return;
+    }
+    if 7 < words {
+        usage();
         return;
     }
     let opened = files::first_state();

@@ -30,7 +30,7 @@ fn read(state: FrameState, files: Files) {
 
 fn main() {
     let words = os::arg_count();
-    if words < 6 {
+    if words != 6 {
         io::write_all(
             STDERR_FILENO,
             b"usage: monitor PLAN MASK START FRAMES PACKETS\n",

@@ -2,6 +2,7 @@
 use mathlib.Core.Path.{_≡_, ap, _∙_}
 use mathlib.Core.List.{List, _++_}
 use Prim.Native.Nat.{ℕ}
+use native.Mathlib.Omega.{arith}
 use borrow.Author.Needs.{needs}
 use borrow.Author.Tests.{eq-eqb, ne-eqb}
 use Rattle.plan.specs.Rates.{packetsOf}
@@ -23,8 +24,10 @@ number c =
 returns : tie.Need-returns
 unfolding codePacketsAnswer codePacketsArea
 returns c =
-    let n = number (c .before .before .before) in
-    let e = ne-eqb _ 0 (c .if1 .taken) in
+    let y = c .before .before .before in
+    let n = number y in
+    let d : y .lay .result ≡ 0 → ⊥ = λ z. omega (arith, z, c .if1 .taken) in
+    let e = ne-eqb (y .lay .result) 0 d in
     (rw (← n, e), rw (← n, e))
 
 returns-2 : tie.Need-returns-2
@@ -36,8 +39,9 @@ returns-2 c =
     let s = y .before .before .before .before .before .before .before in
     let a = s .args in
     let n = number y in
-    let z = eq-eqb _ 0 (e .if1 .left) in
-    let m = y .lay .ensures .1 (e .if1 .left) ∙ ap (λ (r : ℕ). a .header .now ++ packed (packetsOf r) (a .packets .now)) (s .pre .rate-is) in (
+    let o : y .lay .result ≡ 0 = omega (arith, e .if1 .left) in
+    let z = eq-eqb (y .lay .result) 0 o in
+    let m = y .lay .ensures .1 o ∙ ap (λ (r : ℕ). a .header .now ++ packed (packetsOf r) (a .packets .now)) (s .pre .rate-is) in (
       rw (← n, z) (k .code-slot .ensures .0 ∙ ap (λ (v : List ℕ). codeAnswer (a .state) (a .table .now) v (a .coded .now)) m),
       rw (← n, z) (k .code-slot .ensures .1 ∙ ap (λ (v : List ℕ). codeArea (a .state) (a .table .now) v (a .coded .now)) m),
     )

@@ -32,8 +32,8 @@ returns : tie.Need-returns
 unfolding slotPackets
 returns c =
     let k = c .before .before .before .before in
-    let e = ne-eqb _ 0 (c .if1 .taken) in
-    (answer k, rw (← answer k, e))
+    let d : k .read-slot .result .number ≡ 0 → ⊥ = λ z. omega (arith, z, c .if1 .taken) in
+    (answer k, rw (← answer k, ne-eqb (k .read-slot .result .number) 0 d))
 
 returns-2 : tie.Need-returns-2
 unfolding slotPackets
@@ -46,14 +46,15 @@ returns-2 c =
     let src = k .read-slot .last .1 .1 .1 .0 in
     let R = rowsAt (a .state) in
     let v = sourceOf R (a .state .mask) (a .state .register) (a .coded .now) in
-    let q : src ≡ v = k .read-slot .ensures .1 ∙ slot-source _ _ _ _ (ap (λ (x : Answer). x .number) (sym (k .read-slot .ensures .0)) ∙ e .if1 .left) in
+    let o : k .read-slot .result .number ≡ 0 = omega (arith, e .if1 .left) in
+    let q : src ≡ v = k .read-slot .ensures .1 ∙ slot-source _ _ _ _ (ap (λ (x : Answer). x .number) (sym (k .read-slot .ensures .0)) ∙ o) in
     let l : length src ≡ 22 + dataOctetsOf (a .rate) =
     ap length q ∙ sourceOf-source R (a .state .mask) (a .state .register) (a .coded .now) .long ∙ source-at (a .state)
     ∙ ap (λ (r : ℕ). 22 + dataOctetsOf r) (sym (s .pre .rate-is)) in
     let n = unpacks (a .state) (a .rate) (part 22 (length src) src) (length (a .packets .now)) (s .pre .place) (s .pre .rate-is)
     (length-part 22 (length src) src (omega arith) ∙ omega (arith, l)) (s .pre .packets-long) in
     let w : u .unpack .last .1 .1 .0 ≡ unpacked (packetsOf (a .rate)) (part 22 (length src) src) = u .unpack .ensures .area ∙ rw (eq-eqb _ 0 n) in
-    let z = eq-eqb _ 0 (e .if1 .left) in (
+    let z = eq-eqb (k .read-slot .result .number) 0 o in (
       answer k,
       rw (← answer k, z)
           (w ∙ ap (unpacked (packetsOf (a .rate))) (part-rest 22 src ∙ ap (drop 22) q)

@@ -1,6 +1,8 @@
 -- `stream::room_number`: the place's number, and then the length of the packets.
-use mathlib.Core.Path.{sym, ap, _∙_}
+use mathlib.Core.Path.{_≡_, sym, ap, _∙_}
+use Prim.Native.Nat.{_*_}
 use native.Mathlib.Omega.{arith}
+use lib.ListN.{length}
 use borrow.Author.Needs.{needs}
 use borrow.Author.Tests.{eq-eqb, ne-eqb}
 use Rattle.plan.specs.Rates.{packetsOf}
@@ -20,7 +22,8 @@ returns-2 c =
     let a = e .before .before .before .args in
     let r = c .before .packets .ensures ∙ ap packetsOf (c .before .before .rate-at .ensures) in
     let n = sym (e .before .data-number .ensures) ∙ e .if1 .left in
-    sym (room-next (a .state) (a .packets .now) n ∙ rw (← r, eq-eqb _ _ (c .if2 .taken)))
+    let l : length (a .packets .now) ≡ 188 * c .before .packets .result = omega (arith, c .if2 .taken) in
+    sym (room-next (a .state) (a .packets .now) n ∙ rw (← r, eq-eqb (length (a .packets .now)) (188 * c .before .packets .result) l))
 
 returns-3 : tie.Need-returns-3
 returns-3 c =
@@ -28,7 +31,8 @@ returns-3 c =
     let a = e .before .before .before .args in
     let r = c .before .packets .ensures ∙ ap packetsOf (c .before .before .rate-at .ensures) in
     let n = sym (e .before .data-number .ensures) ∙ e .if1 .left in
-    sym (room-next (a .state) (a .packets .now) n ∙ rw (← r, ne-eqb _ _ (c .if2 .left)))
+    let l : length (a .packets .now) ≡ 188 * c .before .packets .result → ⊥ = λ z. omega (arith, z, c .if2 .left) in
+    sym (room-next (a .state) (a .packets .now) n ∙ rw (← r, ne-eqb (length (a .packets .now)) (188 * c .before .packets .result) l))
 
 pub room-number-spec : {M : Type 1} → statement M
 room-number-spec =
