@@ -86,24 +86,7 @@ moved : (t : Bool) (s : FrameState) (r : ℕ) (found : List ℕ)
 moved true s r found = rw (ne-eqb (s .slot + 1) (s .slot) (λ e. omega arith))
 moved false s r found = rw (eq-eqb (s .slot) (s .slot) refl)
 
--- what stands before the areas of a slot call refuses it
-module _ (s : FrameState) (t source coded next : List ℕ) (r : ℕ) (e : r ≡ andThen (dataNumber s) (nextNumber next)) (n : r ≡ 0 → ⊥) where
-  slot-refused : r ≡ slotCall s t source coded next
-  unfolding slotCall
-  slot-refused = e ∙ sym (then-first _ _ (λ z. n (e ∙ z)))
-
-  read-refused : r ≡ readCall s t coded source next
-  unfolding readCall
-  read-refused = slot-refused ∙ sym (then-first _ _ (λ z. n (slot-refused ∙ z)))
-
-  pub code-refused : Coded s t source coded next r coded next
-  code-refused = record { slot = refused _ _ _ _ slot-refused n; place = refused _ _ _ _ slot-refused n }
-
-  pub receive-refused : Received s t coded source next r source next
-  receive-refused =
-      record { octets = refused _ _ _ _ read-refused n; place = rw (ne-eqb (slotCall s t source coded next) 0 (λ z. n (slot-refused ∙ z))) }
-
--- where it does not refuse, the number is that of the call behind it
+-- where nothing before the areas of a slot call refuses it, the number is that of the call behind it
 module _ (s : FrameState) (t source coded next : List ℕ) (h : andThen (dataNumber s) (nextNumber next) ≡ 0) where
   slot-is : slotCall s t source coded next ≡ slotNumber s t source coded
   unfolding slotCall slotNumber
@@ -141,6 +124,23 @@ module _ (s : FrameState) (t source coded next : List ℕ) (h : andThen (dataNum
           octets = record { number = w ∙ ap (λ b. b .number) e ∙ sym read-is; area = rw read-is f };
           place = place-left (a .state) left (ap (λ b. b .state) e) d;
         }
+
+-- and where it does
+module _ (s : FrameState) (t source coded next : List ℕ) (r : ℕ) (e : r ≡ andThen (dataNumber s) (nextNumber next)) (n : r ≡ 0 → ⊥) where
+  slot-refused : r ≡ slotCall s t source coded next
+  unfolding slotCall
+  slot-refused = e ∙ sym (then-first _ _ (λ z. n (e ∙ z)))
+
+  read-refused : r ≡ readCall s t coded source next
+  unfolding readCall
+  read-refused = slot-refused ∙ sym (then-first _ _ (λ z. n (slot-refused ∙ z)))
+
+  pub code-refused : Coded s t source coded next r coded next
+  code-refused = record { slot = refused _ _ _ _ slot-refused n; place = refused _ _ _ _ slot-refused n }
+
+  pub receive-refused : Received s t coded source next r source next
+  receive-refused =
+      record { octets = refused _ _ _ _ read-refused n; place = rw (ne-eqb (slotCall s t source coded next) 0 (λ z. n (slot-refused ∙ z))) }
 
 -- slot calls answer for the slot number as it was handed over
 module _ (p : Plan) (mask start slot register : ℕ) (t source coded next : List ℕ) (r : ℕ) (area left : List ℕ) where
