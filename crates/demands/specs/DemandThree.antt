@@ -49,17 +49,17 @@ symbols-taken : (m rate : ℕ) (c : List ℕ) → modulationOk m ≡ true → ra
 unfolding labelsNumber
 symbols-taken m rate c h k l = rw (h, k) (lengths-yes slotOctets (symbolsOf m) (length c) (symbolsOf m) (record { octets = l; labels = refl }))
 
--- two slots at one place
+-- two slots c and d, coded from x and y at one place
 compared : (R : ℕ) (t : List ℕ) (m rate mask r : ℕ) (x y : List ℕ) → Rows R → modulationOk m ≡ true → rateOk rate ≡ true → Source R x → Source R y
-    → Compared R t m rate x y (slotOf R t mask r x) (slotOf R t mask r y)
-compared R t m rate mask r x y w h k a b =
-    record {
+    → {c d : List ℕ} → c ≡ slotOf R t mask r x → d ≡ slotOf R t mask r y → Compared R t m rate x y c d
+compared R t m rate mask r x y w h k a b e f =
+    rw (e, f) (record {
       symbols-made = (symbols-taken m rate (slotOf R t mask r x) h k (length-slotOf R t mask r x), symbols-taken m rate (slotOf R t mask r y) h k (length-slotOf R t mask r y));
       symbols = slots.labels-equal R t mask r x y w a b m rate h;
       bch = slots.bch-equal R t mask r x y w a b;
       bch-as-sent = slots.bch-sent-equal R t mask r x y w a b;
       ldpc = slots.parity-equal R t mask r x y w a b;
-    }
+    })
 
 -- the values of the group of a place
 place-values : (s : FrameState) → Ready s → let g = groupAt (planIn s) (s .slot) in Values (modulationOf (planIn s) g) (rateOf (planIn s) g) (slotsOf (planIn s) g)
@@ -84,8 +84,7 @@ pub slots-compared : SlotsCompared
 slots-compared s t x y a b o q n m =
     let g = granted s t x a n .place in
     let v = place-values s (g .ready) in
-    rw (left s t x a n, left s t y b m)
-    (compared (rowsAt s) t _ _ (s .mask) (s .register) x y (g .rows) (v .modulation) (v .rate) (source s t x a n o) (source s t y b m q))
+    compared (rowsAt s) t _ _ (s .mask) (s .register) x y (g .rows) (v .modulation) (v .rate) (source s t x a n o) (source s t y b m q) (left s t x a n) (left s t y b m)
 
 pub slots-added : SlotsAdded
 unfolding codeAnswer
@@ -120,9 +119,8 @@ frames-compared p mask start ts x y a b o q n m k h c =
     let l = frame-lent p mask start ts (length x) (length a) n in
     let g = at p ts mask start (l .opened) (l .tables) k h in
     let v = place-values (stateBefore p mask start k) (g .ready) in
-    rw (frame-left p mask start ts x a n k h c, frame-left p mask start ts y b m k h c)
-    (compared (rowsOfSlot p (k + 1)) (tableOf p ts (groupAt p (k + 1))) _ _ mask (registerBefore p mask start k) (sourceIn p x k) (sourceIn p y k) (g .rows) (v .modulation) (v .rate)
-    (frame-source p mask start ts x a n k h c o) (frame-source p mask start ts y b m k h c q))
+    compared (rowsOfSlot p (k + 1)) (tableOf p ts (groupAt p (k + 1))) _ _ mask (registerBefore p mask start k) (sourceIn p x k) (sourceIn p y k) (g .rows) (v .modulation) (v .rate)
+    (frame-source p mask start ts x a n k h c o) (frame-source p mask start ts y b m k h c q) (frame-left p mask start ts x a n k h c) (frame-left p mask start ts y b m k h c)
 
 -- the header and data octets of a slot are added where whole areas are
 source-three : (p : Plan) (x y z : List ℕ) → length x ≡ sourceFrom p 120 → length y ≡ sourceFrom p 120 → length z ≡ sourceFrom p 120

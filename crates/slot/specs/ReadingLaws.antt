@@ -134,7 +134,8 @@ module _ (R : ℕ) (t : List ℕ) (mask r : ℕ) (c : List ℕ) (w : Rows R) (l 
       let s = stuff-right R u w (takenOff-long R c w l mask r) (takenOff-bits R mask r c) in (
         (λ h.
             let a = then-zero (pick (parityRight R t c) 0 PARITY) _ h in
-            let d = then-zero (pick (bchRight R u) 0 BCH) _ (a .1) in
+            let plain : plainNumber R u ≡ 0 = a .1 in
+            let d = then-zero (pick (bchRight R u) 0 BCH) _ plain in
             record {
               parity = p .0 (pick-yes (parityRight R t c) 0 7 (a .0) .0);
               bch = b .0 (pick-yes (bchRight R u) 0 8 (d .0) .0);

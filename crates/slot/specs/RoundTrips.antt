@@ -191,7 +191,7 @@ coded-state s t source coded h = rw (eq-eqb (slotNumber s t source coded) 0 h)
 
 pub read-state : (s : FrameState) (t coded source : List ℕ) → MovesOn (readAnswer s t coded source .number) → readAnswer s t coded source .state ≡ nextState s
 unfolding readAnswer
-read-state s t coded source m = rw (eq-eqb (slotNumber s t source coded) 0 (read-moves s t coded source .0 m))
+read-state s t coded source m = ap (λ b. pick b (nextState s) s) (eq-eqb (slotNumber s t source coded) 0 (read-moves s t coded source .0 m))
 
 -- it is the same whether the slot was coded, read well, or read with 8, 9 or 10
 pub next-same : (s : FrameState) (t source coded t′ coded′ source′ : List ℕ)

@@ -100,19 +100,20 @@ module _ (m s : ℕ) (leftward : Bool) where
   pub placed-none : (labels bits : List ℕ) → length bits ≡ m * s → Placed labels 0 bits
   placed-none labels bits l = record { long = l; right = λ r k p h. absurd (omega arith) }
 
-  pub placed-more : (labels found left : List ℕ) (n : ℕ) → n < m → Placed labels n found
-      → Put s (weighed labels (m - 1 - n)) (bitAt m s leftward 0 n) (strideOf m) found left → Placed labels (n + 1) left
-  placed-more labels found left n h d p =
+  -- one place more: the bits put are those of weight 2^shift, which stand at place n where shift is m - 1 - n
+  pub placed-more : (labels found left : List ℕ) (n shift : ℕ) → n < m → Placed labels n found
+      → Put s (weighed labels shift) (bitAt m s leftward 0 n) (strideOf m) found left → shift ≡ m - 1 - n → Placed labels (n + 1) left
+  placed-more labels found left n shift h d p e =
       record {
         long = p .long ∙ d .long;
         right =
             λ r k a b.
             last-or-below k n b
             (λ (w : k ≡ n).
-            rw (w, bit-stepped m s leftward r n) (p .there r a ∙ digit-weighed m (getD labels r 0) n h))
+            rw (w, bit-stepped m s leftward r n) (p .there r a ∙ rw e (digit-weighed m (getD labels r 0) n h)))
             (λ (w : k < n).
             p .others (bitAt m s leftward r k)
-            (λ i q e. let x = bit-one m s leftward r k i n a (omega arith) q h (e ∙ sym (bit-stepped m s leftward i n)) .1 in omega arith)
+            (λ i q f. let x = bit-one m s leftward r k i n a (omega arith) q h (f ∙ sym (bit-stepped m s leftward i n)) .1 in omega arith)
             ∙ d .right r k a w);
       }
 

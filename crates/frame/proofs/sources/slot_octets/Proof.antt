@@ -1,5 +1,5 @@
 -- `frame::slot_octets`: the place's rate and kind are the definition's.
-use mathlib.Core.Path.{_≡_, sym, ap, _∙_}
+use mathlib.Core.Path.{_≡_, refl, sym, ap, _∙_}
 use Prim.Native.Nat.{ℕ}
 use native.Mathlib.Omega.{arith}
 use borrow.Author.Needs.{needs}
@@ -38,7 +38,7 @@ returns c =
 
 returns-2 : tie.Need-returns-2
 unfolding octetsOfSlot
-returns-2 c = rw (sym (kind-is (c .before)) ∙ c .if1 .left)
+returns-2 c = rw (sym (kind-is (c .before)) ∙ c .if1 .left) refl
 
 pub slot-octets-spec : {M : Type 1} → statement M
 slot-octets-spec = tie.close (tie.spec (λ c κs. search needs) (λ c κs. search needs) source-octets-requires returns returns-2)

@@ -1,13 +1,17 @@
 -- `plan::falls_after`: each way out rewrites with the tests on the way to it.
+use Prim.Native.Nat.{_+_, _<_}
 use borrow.Author.Needs.{needs}
 use borrow.Author.Tests.{le-ltb, lt-ltb, eq-eqb, ne-eqb}
-use Rattle.plan.specs.Plans.{fallsAfter}
+use Rattle.plan.specs.Plans.{modulationOf, fallsAfter}
 use Rattle.plan.proofs.groups.falls_after.Statement.{statement}
 use Rattle.plan.proofs.groups.falls_after.Tie as tie
 
 returns : tie.Need-returns
 unfolding fallsAfter
-returns c = rw (lt-ltb _ _ (c .if1 .taken))
+returns c =
+    let a = c .before .before .before .args in
+    let falls : modulationOf (a .t1) (a .g + 1) < modulationOf (a .t1) (a .g) = c .if1 .taken in
+    rw (lt-ltb _ _ falls)
 
 returns-2 : tie.Need-returns-2
 unfolding fallsAfter

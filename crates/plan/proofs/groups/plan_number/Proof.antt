@@ -1,9 +1,9 @@
 -- `plan::plan_number`: each way out rewrites with the tests on the way to it.
-use mathlib.Core.Path.{sym, _∙_}
+use mathlib.Core.Path.{_≡_, sym, _∙_}
 use Prim.Native.Nat.{_≤_}
 use borrow.Author.Needs.{needs}
 use borrow.Author.Tests.{eq-eqb, ne-eqb}
-use Rattle.plan.specs.Plans.{groupsOk, planNumber}
+use Rattle.plan.specs.Plans.{slotsBefore, groupsOk, planNumber}
 use Rattle.plan.specs.RateLaws.{between}
 use Rattle.plan.proofs.groups.plan_number.Statement.{statement}
 use Rattle.plan.proofs.groups.plan_number.Tie as tie
@@ -12,13 +12,17 @@ use Rattle.plan.proofs.groups.plan_number.Tie as tie
 few : (c : tie.Then1) → c .before .before .args .plan .count ≤ 8
 few c = between 1 8 (c .before .before .args .plan .count) (sym (c .before .known .ensures) ∙ c .if1 .taken) .high
 
+-- the slots of all groups are 120
+whole : (c : tie.Then4) → let p = c .before .before .before .before .before .before .before .before .args .plan in slotsBefore p (p .count) ≡ 120
+whole c = sym (c .before .total .ensures) ∙ c .if4 .taken
+
 returns : tie.Need-returns
 unfolding planNumber groupsOk
 returns c =
     let f = c .before .before in
     let v = f .before .before in
     let k = v .before .before in
-    rw (sym (k .before .known .ensures) ∙ k .if1 .taken, sym (v .before .all-values-ok .ensures) ∙ v .if2 .taken, sym (f .before .all-fall .ensures) ∙ f .if3 .taken, eq-eqb _ _ (sym (c .before .total .ensures) ∙ c .if4 .taken))
+    rw (sym (k .before .known .ensures) ∙ k .if1 .taken, sym (v .before .all-values-ok .ensures) ∙ v .if2 .taken, sym (f .before .all-fall .ensures) ∙ f .if3 .taken, eq-eqb _ _ (whole c))
 
 returns-2 : tie.Need-returns-2
 unfolding planNumber groupsOk

@@ -6,7 +6,7 @@ use borrow.Author.Tests.{eq-eqb, ne-eqb}
 use lib.ListN.{length-replicate}
 use Rattle.lists.specs.ChoiceLaws.{then-zero}
 use Rattle.dispersal.specs.RegisterLaws.{register-is}
-use Rattle.plan.specs.States.{stateNumber}
+use Rattle.plan.specs.States.{movedOn, stateNumber}
 use Rattle.slot.specs.Slots.{slotOf, registerAfter}
 use Rattle.slot.specs.Calls.{rowsAt, dataNumber, slotNumber, codeAnswer, codeArea}
 use Rattle.slot.specs.CallLaws.{Accepted-slot, accepted-slot}
@@ -58,8 +58,9 @@ returns-2 c =
     let a = r .before .before .before .before .before .before .before .args in
     let e = r .rows-at .ensures in
     let k : p .put-slot .result ≡ registerAfter (rowsAt (a .state)) (a .state .mask) (a .state .register)
-    = p .put-slot .ensures .0 ∙ ap (λ (m : ℕ). registerAfter m (a .state .mask) (a .state .register)) e in (
-      rw (← n, z, c .advanced .ensures, k),
+    = p .put-slot .ensures .0 ∙ ap (λ (m : ℕ). registerAfter m (a .state .mask) (a .state .register)) e in
+    let on : c .advanced .result ≡ movedOn (a .state) (p .put-slot .result) = c .advanced .ensures in (
+      rw (← n, z, on, k),
       rw (← n, z) (p .put-slot .ensures .1 ∙ ap (λ (m : ℕ). slotOf m (a .table .now) (a .state .mask) (a .state .register) (a .source .now)) e),
     )
 

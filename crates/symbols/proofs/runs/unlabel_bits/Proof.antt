@@ -6,8 +6,7 @@ use Prim.Native.Nat.{ℕ, _-_, _≤_}
 use native.Mathlib.Omega.{arith}
 use lib.ListN.{length}
 use borrow.Author.Needs.{needs}
-use Rattle.symbols.specs.Index.{strideOf, bitAt}
-use Rattle.symbols.specs.Needs.{Put, weighed}
+use Rattle.symbols.specs.Index.{strideOf}
 use Rattle.symbols.proofs.Turns.{strided, Placed, placed-none, placed-more, placed-all}
 use Rattle.symbols.proofs.runs.unlabel_bits.Statement.{statement}
 use Rattle.symbols.proofs.runs.unlabel_bits.Tie as tie
@@ -56,9 +55,8 @@ loop-again c =
     let a = b .before .before .before .before .args in
     let m = a .modulation in
     let u = a .labels .now in
-    let p : Put (length u) (weighed u (m - 1 - l .place)) (bitAt m (length u) (a .leftward) 0 (l .place)) (strideOf m) (l .run) (t .put-place .last .1 .1 .1 .1 .0) =
-    rw (t .before .before .first-bit .ensures, l .inv .stride) at (t .put-place .ensures) in
-    record { passed = search needs; stride = l .inv .stride; done = placed-more m (length u) (a .leftward) u (l .run) _ (l .place) (search needs) (l .inv .done) p }
+    let p = rw (t .before .before .first-bit .ensures, l .inv .stride) at (t .put-place .ensures) in
+    record { passed = search needs; stride = l .inv .stride; done = placed-more m (length u) (a .leftward) u (l .run) _ (l .place) _ (search needs) (l .inv .done) p (omega arith) }
 
 returns : tie.Need-returns Inv-loop μ-loop
 returns c =
