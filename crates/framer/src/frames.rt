@@ -1,6 +1,8 @@
 // Whole frames, one after the other, as long as there are packets.
 ghost use Rattle.framer.specs.Needs.{Areas};
 use crate::slots::Files;
+use crate::slots::HEADERS;
+use crate::slots::PACKETS;
 use crate::slots::make_slot;
 use plan::FrameState;
 
@@ -82,7 +84,7 @@ fn headers_end(files: Files) -> bool {
     if got.octets == 0 {
         return true;
     }
-    files::note(6, b"goes on after the last data slot");
+    files::note(HEADERS, b"goes on after the last data slot");
     false
 }
 
@@ -130,7 +132,7 @@ fn finished(
         return tally;
     }
     if tally.frames == 0 {
-        files::note(4, b"has no packets");
+        files::note(PACKETS, b"has no packets");
         return stopped(tally, false);
     }
     stopped(tally, headers_end(files))

@@ -11,12 +11,10 @@ use libc::STDERR_FILENO;
 use libc::STDOUT_FILENO;
 use plan::FrameState;
 use slots::Files;
-
-const PACKETS: usize = 4;
+use slots::HEADERS;
+use slots::PACKETS;
 
 const FRAMES: usize = 5;
-
-const HEADERS: usize = 6;
 
 fn field(name: &[u8], value: u64) {
     io::write_all(STDOUT_FILENO, name);

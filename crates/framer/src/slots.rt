@@ -4,6 +4,11 @@ ghost use lib.ListN.{length};
 ghost use Rattle.framer.specs.Needs.{Areas};
 use plan::FrameState;
 
+// The words that name the packets and the headers.
+pub const PACKETS: usize = 4;
+
+pub const HEADERS: usize = 6;
+
 // The files that are open: below 0 for headers stands for headers of zeros.
 pub struct Files {
     pub packets: i32,
@@ -48,13 +53,13 @@ fn read_header(files: Files, header: &mut [u8; 22]) -> bool {
     }
     let got = files::take(files.headers, header);
     if got.failed {
-        files::note(6, b"cannot be read");
+        files::note(HEADERS, b"cannot be read");
         return false;
     }
     if got.octets == 22 {
         return true;
     }
-    files::note(6, b"ends before the last data slot");
+    files::note(HEADERS, b"ends before the last data slot");
     false
 }
 
@@ -74,12 +79,12 @@ fn first_unsynced(packets: &[u8]) -> usize {
 
 // Tells of packets that the slot coder refused.
 fn refused(number: u8, passed: u64, packets: &[u8]) {
-    files::note_refusal(4, number);
+    files::note_refusal(PACKETS, number);
     if number == refusal::SYNC {
         let at = first_unsynced(packets) as u64;
         let place = std::num::wrapping_add_u64(passed, at);
         files::note_number(
-            4,
+            PACKETS,
             b"packet ",
             place,
             b", counted from 0, does not begin 0x47",
@@ -130,12 +135,12 @@ fn fill_slot(
 {
     let got = files::take(files.packets, packets);
     if got.failed {
-        files::note(4, b"cannot be read");
+        files::note(PACKETS, b"cannot be read");
         return none(state, false);
     }
     let octets = got.octets;
     if octets % 188 != 0 {
-        files::note(4, b"ends inside a packet");
+        files::note(PACKETS, b"ends inside a packet");
         return none(state, false);
     }
     if octets == 0 {

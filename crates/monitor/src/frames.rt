@@ -1,6 +1,7 @@
 // Whole frames, one after the other, as long as the file goes.
 ghost use Rattle.monitor.specs.Needs.{Areas};
 use crate::report;
+use crate::slots::FRAMES;
 use crate::slots::Files;
 use crate::slots::Step;
 use crate::slots::next_slot;
@@ -175,7 +176,7 @@ fn finished(
         return total;
     }
     if total.frames == 0 {
-        files::note(4, b"has no frames");
+        files::note(FRAMES, b"has no frames");
         return stopped(total, false);
     }
     total

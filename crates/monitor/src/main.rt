@@ -10,9 +10,8 @@ mod slots;
 
 use libc::STDERR_FILENO;
 use plan::FrameState;
+use slots::FRAMES;
 use slots::Files;
-
-const FRAMES: usize = 4;
 
 const PACKETS: usize = 5;
 

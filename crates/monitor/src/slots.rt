@@ -5,6 +5,9 @@ ghost use lib.ListN.{length};
 ghost use Rattle.monitor.specs.Needs.{Areas, Slot};
 use plan::FrameState;
 
+// The word that names the frames.
+pub const FRAMES: usize = 4;
+
 // The files that are open.
 pub struct Files {
     pub frames: i32,
@@ -122,7 +125,7 @@ pub fn next_slot(
 {
     let got = files::take(files.frames, coded);
     if got.failed {
-        files::note(4, b"cannot be read");
+        files::note(FRAMES, b"cannot be read");
         return none(state, false);
     }
     if got.octets == 0 {
@@ -131,7 +134,7 @@ pub fn next_slot(
         }
     }
     if got.octets != 5610 {
-        files::note(4, b"ends inside a frame");
+        files::note(FRAMES, b"ends inside a frame");
         return none(state, false);
     }
     read_slot(state, files, table, coded, packets)

@@ -1,4 +1,4 @@
-// What the programs that try slots share: a frame of one rate, its published table, octets to code, and a digest.
+// What the programs that try slots share: a frame of one rate, octets to code, and a digest.
 mod octets;
 mod rates;
 
@@ -9,4 +9,3 @@ pub use rates::START;
 pub use rates::opened;
 pub use rates::plan_of;
 pub use rates::source_length;
-pub use rates::table_length;

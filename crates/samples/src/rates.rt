@@ -8,9 +8,6 @@ pub const MASK: u32 = 19088743;
 
 pub const START: u32 = 12246029;
 
-// The lengths of the published tables: a count for each row, and the addresses.
-const TABLE_LENGTHS: [usize; 12] = [0, 278, 333, 356, 402, 432, 461, 471, 465, 481, 510, 439];
-
 // A frame of 32APSK, which has no dummies.
 pub fn plan_of(rate: u16) -> Plan {
     Plan {
@@ -25,16 +22,6 @@ pub fn plan_of(rate: u16) -> Plan {
 pub fn opened(rate: u16) -> FrameState {
     let answer = plan::open(plan_of(rate), MASK, START);
     answer.state
-}
-
-// The length of the published table of a rate.
-pub fn table_length(rate: u16) -> usize
-    ensures { λ r. ⌜ r ≤ 510 ⌝ }
-{
-    if 11 < rate {
-        return 0;
-    }
-    TABLE_LENGTHS[lists::index(rate)]
 }
 
 // The header and data octets of a slot.

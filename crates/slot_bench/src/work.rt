@@ -79,7 +79,7 @@ fn with_areas(
 )
     requires { ⌜ Room (now table) (now source) (now found) ⌝ }
 {
-    let numbers = samples::table_length(rate);
+    let numbers = published::table_length(rate);
     let octets = samples::source_length(rate);
     published::copy_table(rate, &mut table[0..numbers]);
     run(

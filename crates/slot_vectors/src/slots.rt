@@ -85,7 +85,7 @@ fn frame_lines(rate: u16, table: &[u16], source: &mut [u8], found: &mut [u8]) {
 fn with_areas(rate: u16, table: &mut [u16], source: &mut [u8], found: &mut [u8])
     requires { ⌜ Room (now table) (now source) (now found) ⌝ }
 {
-    let numbers = samples::table_length(rate);
+    let numbers = published::table_length(rate);
     let octets = samples::source_length(rate);
     published::copy_table(rate, &mut table[0..numbers]);
     frame_lines(

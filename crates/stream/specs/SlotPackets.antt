@@ -21,9 +21,9 @@ use Rattle.slot.specs.Calls.{rowsAt, dataNumber, codeAnswer, codeArea, readAnsw
 unfoldable pub rateAt : FrameState → ℕ
 rateAt s = rateOf (planIn s) (groupAt (planIn s) (s .slot))
 
--- how many packets the state's next slot carries; "others .. are dummies", which carry none
-unfoldable pub packetsNext : FrameState → ℕ
-packetsNext s = pick (eqb (dataNumber s) 0) (packetsOf (rateAt s)) 0
+-- the same where that slot carries data; 0, which has no packets, where it is a dummy or the state is refused
+unfoldable pub rateNext : FrameState → ℕ
+rateNext s = pick (eqb (dataNumber s) 0) (rateAt s) 0
 
 -- "header 176, data": the header, and "one slot's packets" packed "into data octets"
 abbrev pub laid : FrameState → List ℕ → List ℕ → List ℕ

@@ -14,7 +14,7 @@ pub fn put_tables(plan: Plan, area: &mut [u16]) -> usize
     let mut g: usize = 0;
     while g < 8 {
         let rate = plan.rate[g];
-        let end = at + samples::table_length(rate);
+        let end = at + published::table_length(rate);
         published::copy_table(rate, &mut area[at..end]);
         at = end;
         g += 1;
