@@ -1,5 +1,5 @@
-//! The loops of the proved coder and reader in Rust, for the benchmark alone: one octet a bit, BCH an octet at a time by a
-//! table of 256 remainders, the register bit by bit, positions stepped by q, and areas that are lent and not made anew.
+//! Coding and reading by straight loops, for the benchmark alone: one octet a bit, BCH an octet at a time by a table of 256
+//! remainders, the register bit by bit, positions stepped by q, and areas that are lent and not made anew.
 use crate::slot::{Code, BCH_WRONG, PARITY_WRONG, STUFF_WRONG, WIDTH};
 use crate::{bch, ldpc::GROUP};
 
