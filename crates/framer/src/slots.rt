@@ -1,7 +1,7 @@
 // One slot of a frame: its header and packets read, the slot coded and written.
 ghost use mathlib.Core.Path.{_≡_};
 ghost use lib.ListN.{length};
-ghost use Rattle.framer.specs.Needs.{Areas};
+ghost use Rattle.framer.specs.Needs.{Areas, Filled};
 use plan::FrameState;
 
 // The words that name the packets and the headers.
@@ -122,7 +122,36 @@ fn put_slot(
     }
 }
 
-// Makes a data slot of what the packets' file has next, filled with null packets where it ends.
+// Codes and writes a data slot of so many octets of packets, with null packets behind them.
+fn code_filled(
+    state: FrameState,
+    files: Files,
+    passed: u64,
+    octets: usize,
+    table: &mut [u16],
+    packets: &mut [u8],
+    coded: &mut [u8],
+) -> Step
+    requires { ⌜ Filled octets (now table) (now packets) ⌝ }
+{
+    let end = packets.len();
+    stream::fill_null(&mut packets[octets..end]);
+    let mut header = [0u8; 22];
+    if !read_header(files, &mut header) {
+        return none(state, false);
+    }
+    let step = put_slot(state, files, passed, table, &header, packets, coded);
+    let next = step.state;
+    Step {
+        ok: step.ok,
+        ended: false,
+        state: next,
+        packets: octets / 188,
+        nulls: (end - octets) / 188,
+    }
+}
+
+// Makes a data slot of what the packets' file has next. A frame that would have no packet of the file is not begun.
 fn fill_slot(
     state: FrameState,
     files: Files,
@@ -148,21 +177,7 @@ fn fill_slot(
             return none(state, true);
         }
     }
-    let end = packets.len();
-    stream::fill_null(&mut packets[octets..end]);
-    let mut header = [0u8; 22];
-    if !read_header(files, &mut header) {
-        return none(state, false);
-    }
-    let step = put_slot(state, files, passed, table, &header, packets, coded);
-    let next = step.state;
-    Step {
-        ok: step.ok,
-        ended: false,
-        state: next,
-        packets: octets / 188,
-        nulls: (end - octets) / 188,
-    }
+    code_filled(state, files, passed, octets, table, packets, coded)
 }
 
 fn zeros_written(files: Files) -> bool {
