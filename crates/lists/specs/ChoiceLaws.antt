@@ -1,7 +1,7 @@
 -- Laws of choosing by a test: what a number 0 says of the tests on the way to it.
 use mathlib.Core.Path.{_≡_, refl, sym, _∙_}
 use mathlib.Core.Bool.{Bool, true, false, _&&_, false≢true}
-use Prim.Native.Nat.{ℕ, suc}
+use Prim.Native.Nat.{ℕ, suc, _<_}
 use native.Mathlib.Decide.{ℕ-discrete}
 use native.Mathlib.Omega.{arith}
 use borrow.Author.Tests.{eq-eqb, ne-eqb}
@@ -41,10 +41,15 @@ pub pick-yes : (t : Bool) (a n : ℕ) → pick t a (suc n) ≡ 0 → (t ≡ true
 pick-yes true a n h = (refl, h)
 pick-yes false a n h = absurd (omega arith)
 
--- a test whose holding is the refusal n + 1
-pub pick-no : (t : Bool) (n b : ℕ) → pick t (suc n) b ≡ 0 → (t ≡ false) × (b ≡ 0)
-pick-no true n b h = absurd (omega arith)
-pick-no false n b h = (refl, h)
+-- where the answer is 0, a test whose failure is refused held, whatever the refusal's number
+pub not-refused : (t : Bool) (n : ℕ) → 0 < n → pick t 0 n ≡ 0 → t ≡ true
+not-refused true n l h = refl
+not-refused false n l h = absurd (omega arith)
+
+-- and one whose holding is refused failed
+pub no-cause : (t : Bool) (n : ℕ) → 0 < n → pick t n 0 ≡ 0 → t ≡ false
+no-cause true n l h = absurd (omega arith)
+no-cause false n l h = refl
 
 pub then-zero : (a b : ℕ) → andThen a b ≡ 0 → (a ≡ 0) × (b ≡ 0)
 then-zero a b h = go (ℕ-discrete a 0)

@@ -1,4 +1,5 @@
 pub mod Needs
+pub mod Sizes
 pub mod Rates
 pub mod RateLaws
 pub mod Plans

@@ -7,7 +7,8 @@ use native.Mathlib.Omega.{arith}
 use borrow.Author.Tests.{le-leb, leb-true, eqb-true}
 use lib.Dec.{leb, eqb}
 use Rattle.lists.specs.Choice.{pick}
-use Rattle.lists.specs.ChoiceLaws.{and-left, and-right, then-zero, pick-yes}
+use Rattle.lists.specs.ChoiceLaws.{and-left, and-right, then-zero, not-refused}
+use Rattle.refusal.specs.Numbers.{PLAN}
 use Rattle.lists.specs.Count.{every}
 use Rattle.lists.specs.CountLaws.{sum-none, sum-more, sum-mono, every-at}
 use Rattle.plan.specs.declared.Plan.{Plan}
@@ -42,16 +43,16 @@ groups-yes p l h = rw (le-leb 1 (p .count) l, le-leb (p .count) 8 h)
 pub accepted : (p : Plan) → planNumber p ≡ 0 → Accepted p
 unfolding planNumber groupsOk
 accepted p h =
-    let a = then-zero (pick (groupsOk p) 0 1) _ h in
-    let b = then-zero (pick (every (p .count) (valuesOk p)) 0 1) _ (a .1) in
-    let c = then-zero (pick (every (p .count - 1) (fallsAfter p)) 0 1) _ (b .1) in
-    let g = between 1 8 (p .count) (pick-yes (groupsOk p) 0 0 (a .0) .0) in
+    let a = then-zero (pick (groupsOk p) 0 PLAN) _ h in
+    let b = then-zero (pick (every (p .count) (valuesOk p)) 0 PLAN) _ (a .1) in
+    let c = then-zero (pick (every (p .count - 1) (fallsAfter p)) 0 PLAN) _ (b .1) in
+    let g = between 1 8 (p .count) (not-refused (groupsOk p) PLAN (omega arith) (a .0)) in
     record {
       low = g .low;
       high = g .high;
-      values = pick-yes (every (p .count) (valuesOk p)) 0 0 (b .0) .0;
-      order = pick-yes (every (p .count - 1) (fallsAfter p)) 0 0 (c .0) .0;
-      total = eqb-true (slotsBefore p (p .count)) 120 (pick-yes (eqb (slotsBefore p (p .count)) 120) 0 0 (c .1) .0);
+      values = not-refused (every (p .count) (valuesOk p)) PLAN (omega arith) (b .0);
+      order = not-refused (every (p .count - 1) (fallsAfter p)) PLAN (omega arith) (c .0);
+      total = eqb-true (slotsBefore p (p .count)) 120 (not-refused (eqb (slotsBefore p (p .count)) 120) PLAN (omega arith) (c .1));
     }
 
 -- the values of a group that is accepted

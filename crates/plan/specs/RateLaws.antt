@@ -12,6 +12,7 @@ use lib.ListN.{List·getD-eq-default}
 use Rattle.lists.specs.ChoiceLaws.{and-left, and-right}
 use Rattle.lists.specs.Count.{every, table}
 use Rattle.lists.specs.CountLaws.{every-at}
+use Rattle.plan.specs.Sizes.{slotBits}
 use Rattle.plan.specs.Rates.{rateOk, rowCounts, rowsOf, dataBitsOf, dataOctetsOf, packetsOf, modulationOk, symbolsOf}
 
 -- a number between bounds, as the tests for rates and modulations have it
@@ -76,14 +77,14 @@ unfolding table packetsOf dataOctetsOf dataBitsOf rowsOf
 packet-counts = refl
 
 -- the symbols of as many slots as a symbol has bits
-pub symbols-whole : (m : ℕ) → modulationOk m ≡ true → m * symbolsOf m ≡ 44880
+pub symbols-whole : (m : ℕ) → modulationOk m ≡ true → m * symbolsOf m ≡ slotBits
 unfolding every
 symbols-whole m h =
     let b = between 1 5 m h in
-    eqb-true (m * symbolsOf m) 44880 (each 5 (λ k. eqb (k * symbolsOf k) 44880) refl m (b .low) (b .high))
+    eqb-true (m * symbolsOf m) slotBits (each 5 (λ k. eqb (k * symbolsOf k) slotBits) refl m (b .low) (b .high))
 
 -- "The data slots of each five planned for one modulation hold 44,880 symbols in all"
-pub five-hold : (m n : ℕ) → modulationOk m ≡ true → n % 5 ≡ 0 → n * m / 5 * symbolsOf m ≡ n / 5 * 44880
+pub five-hold : (m n : ℕ) → modulationOk m ≡ true → n % 5 ≡ 0 → n * m / 5 * symbolsOf m ≡ n / 5 * slotBits
 five-hold m n h f =
     let k = n / 5 in
     let e : n ≡ k * 5 = omega arith in

@@ -4,6 +4,7 @@ use mathlib.Core.List.{List, [], _∷_}
 use Prim.Native.Nat.{ℕ, _-_, _*_, _/_}
 use lib.Dec.{leb}
 use lib.ListN.{getD}
+use Rattle.plan.specs.Sizes.{slotBits}
 
 -- "Rates are numbered 1 to 11"
 abbrev pub rateOk : ℕ → Bool
@@ -40,6 +41,6 @@ packetsOf r = dataOctetsOf r / 187
 abbrev pub modulationOk : ℕ → Bool
 modulationOk m = leb 1 m && leb m 5
 
--- the symbols of a slot of 44,880 bits
+-- the symbols of a slot
 abbrev pub symbolsOf : ℕ → ℕ
-symbolsOf m = 44880 / m
+symbolsOf m = slotBits / m

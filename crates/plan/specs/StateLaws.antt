@@ -6,14 +6,15 @@ use native.Mathlib.Omega.{arith}
 use borrow.Author.Tests.{le-leb, leb-true, eqb-false, eq-eqb, ne-eqb}
 use lib.Dec.{eqb, leb}
 use Rattle.lists.specs.Choice.{pick}
-use Rattle.lists.specs.ChoiceLaws.{and-left, and-right, then-zero, then-next, pick-yes, pick-no}
-use Rattle.refusal.specs.Numbers.{FULL}
+use Rattle.lists.specs.ChoiceLaws.{and-left, and-right, then-zero, then-next, not-refused, no-cause}
+use Rattle.refusal.specs.Numbers.{PLAN, DUMMY, FULL, REGISTER}
 use Rattle.dispersal.specs.Register.{maskOk, registerOk, settingsOk}
 use Rattle.plan.specs.declared.Plan.{Plan}
 use Rattle.plan.specs.declared.FrameState.{FrameState}
+use Rattle.plan.specs.Sizes.{slotWidth}
 use Rattle.plan.specs.Plans.{planNumber}
 use Rattle.plan.specs.Places.{carries}
-use Rattle.plan.specs.States.{slotWidth, planIn, begun, movedOn, openNumber, opened, soundNumber, stateNumber, passNumber, passed}
+use Rattle.plan.specs.States.{planIn, begun, movedOn, openNumber, opened, soundNumber, stateNumber, passNumber, passed}
 
 -- a state that is refused neither for its plan nor for its register
 pub record Sound (s : FrameState) : Type 0 where
@@ -30,12 +31,12 @@ positive (suc n) h = omega arith
 pub sound : (s : FrameState) → soundNumber s ≡ 0 → Sound s
 unfolding soundNumber
 sound s h =
-    let a = then-zero (pick (eqb (s .slot) 0) 1 0) _ h in
+    let a = then-zero (pick (eqb (s .slot) 0) PLAN 0) _ h in
     let b = then-zero (planNumber (planIn s)) _ (a .1) in
-    let t = pick-yes (settingsOk slotWidth (s .mask) (s .start) && registerOk slotWidth (s .register)) 0 5 (b .1) .0 in
+    let t = not-refused (settingsOk slotWidth (s .mask) (s .start) && registerOk slotWidth (s .register)) REGISTER (omega arith) (b .1) in
     let u = and-left (settingsOk slotWidth (s .mask) (s .start)) _ t in
     record {
-      numbered = positive (s .slot) (eqb-false (s .slot) 0 (pick-no (eqb (s .slot) 0) 0 0 (a .0) .0));
+      numbered = positive (s .slot) (eqb-false (s .slot) 0 (no-cause (eqb (s .slot) 0) PLAN (omega arith) (a .0)));
       plan = b .0;
       mask = and-left (maskOk slotWidth (s .mask)) _ u;
       start = and-right (maskOk slotWidth (s .mask)) _ u;
@@ -56,7 +57,7 @@ pub ready : (s : FrameState) → stateNumber s ≡ 0 → Ready s
 unfolding stateNumber
 ready s h =
     let a = then-zero (soundNumber s) _ h in
-    record { sound = sound s (a .0); left = leb-true (s .slot) 120 (pick-yes (leb (s .slot) 120) 0 2 (a .1) .0) }
+    record { sound = sound s (a .0); left = leb-true (s .slot) 120 (not-refused (leb (s .slot) 120) FULL (omega arith) (a .1)) }
 
 pub ready-yes : (s : FrameState) → Ready s → stateNumber s ≡ 0
 unfolding stateNumber
@@ -72,7 +73,7 @@ pub pass-ready : (s : FrameState) → passNumber s ≡ 0 → Ready s × (carries
 unfolding passNumber
 pass-ready s h =
     let a = then-zero (stateNumber s) _ h in
-    (ready s (a .0), pick-no (carries (planIn s) (s .slot)) 1 0 (a .1) .0)
+    (ready s (a .0), no-cause (carries (planIn s) (s .slot)) DUMMY (omega arith) (a .1))
 
 -- such a pass has number 0
 pub pass-yes : (s : FrameState) → Ready s → carries (planIn s) (s .slot) ≡ false → passNumber s ≡ 0
@@ -84,7 +85,7 @@ pub open-sound : (p : Plan) (mask start : ℕ) → openNumber p mask start ≡ 0
 unfolding openNumber
 open-sound p mask start h =
     let a = then-zero (planNumber p) _ h in
-    let t = pick-yes (settingsOk slotWidth mask start) 0 5 (a .1) .0 in
+    let t = not-refused (settingsOk slotWidth mask start) REGISTER (omega arith) (a .1) in
     let u = and-right (maskOk slotWidth mask) _ t in
     record { numbered = omega arith; plan = a .0; mask = and-left (maskOk slotWidth mask) _ t; start = u; register = u }
 

@@ -9,12 +9,9 @@ use Rattle.dispersal.specs.Register.{registerOk, settingsOk}
 use Rattle.plan.specs.declared.Plan.{Plan}
 use Rattle.plan.specs.declared.FrameState.{FrameState}
 use Rattle.plan.specs.declared.Answer.{Answer}
+pub use Rattle.plan.specs.Sizes.{slotWidth}
 use Rattle.plan.specs.Plans.{planNumber}
 use Rattle.plan.specs.Places.{carries}
-
--- the slot register has 25 bits
-abbrev pub slotWidth : ℕ
-slotWidth = 25
 
 -- the plan that a state holds
 abbrev pub planIn : FrameState → Plan

@@ -19,6 +19,22 @@ pub use state::pass;
 pub use state::plan_in;
 pub use state::state_number;
 
+// A slot: its bits, its octets, the width of its register, and the most parity bits that one has.
+pub const SLOT_BITS: usize = 44880;
+
+pub const SLOT_OCTETS: usize = 5610;
+
+pub const SLOT_WIDTH: u32 = 25;
+
+pub const MOST_PARITY: usize = 29546;
+
+// A TMCC block: its bits, its octets and the width of its register.
+pub const BLOCK_BITS: usize = 31680;
+
+pub const BLOCK_OCTETS: usize = 3960;
+
+pub const BLOCK_WIDTH: u32 = 15;
+
 // A slot plan: of the groups 0, 1, .. the first `count` are in use.
 pub struct Plan {
     pub count: u16,

@@ -7,11 +7,9 @@ use crate::Answer;
 use crate::FrameState;
 use crate::Place;
 use crate::Plan;
+use crate::SLOT_WIDTH;
 use crate::groups::plan_number;
 use crate::places::place_of;
-
-// The slot register's width.
-const SLOT_WIDTH: u32 = 25;
 
 fn open_number(plan: Plan, mask: u32, start: u32) -> u8
     ensures { λ r. ⌜ r ≡ openNumber plan mask start ⌝ }

@@ -8,6 +8,7 @@ use native.Mathlib.Numerals.{add-one}
 use native.Mathlib.Omega.{arith}
 use lib.ListN.{length, set, length-set}
 use lib.Seq.{getD-set-same, getD-set-other}
+use Rattle.plan.specs.Sizes.{slotBits}
 use Rattle.symbols.specs.Needs.{Put}
 
 -- either k is n or it is below
@@ -19,7 +20,7 @@ pub next-step : (step r : ℕ) → step * (r + 1) ≡ step * r + step
 next-step step r = ap (λ (k : ℕ). step * k) (add-one r) ∙ mul-suc step r
 
 -- where a column begins is a small number
-pub column-small : (k s : ℕ) → k ≤ 5 → s ≤ 44880 → k * s ≤ 224400
+pub column-small : (k s : ℕ) → k ≤ 5 → s ≤ slotBits → k * s ≤ 5 * slotBits
 column-small k s h l = mul-le-mul h l
 
 -- places of a stride are apart

@@ -9,15 +9,17 @@ use borrow.Author.Tests.{eqb-true, eq-eqb, ltb-true, lt-ltb}
 use lib.Dec.{eqb, ltb}
 use lib.ListN.{length, getD}
 use Rattle.lists.specs.Choice.{pick, andThen}
-use Rattle.lists.specs.ChoiceLaws.{and-left, and-right, then-zero, then-both, pick-yes}
+use Rattle.lists.specs.ChoiceLaws.{and-left, and-right, then-zero, then-both, not-refused}
+use Rattle.refusal.specs.Numbers.{PLAN, LENGTH, LABEL}
 use Rattle.lists.specs.Count.{every}
 use Rattle.lists.specs.CountLaws.{every-at, every-all}
 use Rattle.lists.specs.Runs.{Octets}
+use Rattle.plan.specs.Sizes.{slotOctets, blockOctets}
 use Rattle.plan.specs.Rates.{rateOk, modulationOk, symbolsOf}
 use Rattle.plan.specs.RateLaws.{symbols-whole}
 use Rattle.refusal.specs.Answers.{BackAgain}
 use Rattle.symbols.specs.Index.{rightToLeft}
-use Rattle.symbols.specs.Labels.{slotOctets, blockOctets, blockLabels, labelsOfOctets, octetsOfLabels, labelsOfSlot, slotOfLabels, labelsOfBlock, blockOfLabels, lengthNumber, labelNumber, slotNumber, slotOfLabelsNumber, blockNumber, blockOfLabelsNumber}
+use Rattle.symbols.specs.Labels.{blockLabels, labelsOfOctets, octetsOfLabels, labelsOfSlot, slotOfLabels, labelsOfBlock, blockOfLabels, lengthNumber, labelNumber, slotNumber, slotOfLabelsNumber, blockNumber, blockOfLabelsNumber}
 use Rattle.symbols.specs.LabelLaws.{length-octet-labels, octet-labels-below, length-label-octets, octets-labels, labels-octets, labels-equal}
 
 -- what lengths with number 0 are
@@ -28,7 +30,7 @@ pub record Lengths (n s x y : ℕ) : Type 0 where
 pub lengths : (n s x y : ℕ) → lengthNumber n s x y ≡ 0 → Lengths n s x y
 unfolding lengthNumber
 lengths n s x y h =
-    let t = pick-yes (eqb x n && eqb y s) 0 3 h .0 in
+    let t = not-refused (eqb x n && eqb y s) LENGTH (omega arith) h in
     record { octets = eqb-true x n (and-left (eqb x n) _ t); labels = eqb-true y s (and-right (eqb x n) _ t) }
 
 pub lengths-yes : (n s x y : ℕ) → Lengths n s x y → lengthNumber n s x y ≡ 0
@@ -40,7 +42,7 @@ pub labels-fit : (m : ℕ) (labels : List ℕ) → labelNumber m labels ≡ 0 �
 unfolding labelNumber
 labels-fit m labels h r l =
     let f : ℕ → Bool = λ i. ltb (getD labels i 0) (2 ^ m) in
-    ltb-true (getD labels r 0) (2 ^ m) (every-at (length labels) f (pick-yes (every (length labels) f) 0 11 h .0) r l)
+    ltb-true (getD labels r 0) (2 ^ m) (every-at (length labels) f (not-refused (every (length labels) f) LABEL (omega arith) h) r l)
 
 pub labels-fit-yes : (m : ℕ) (labels : List ℕ) → ((r : ℕ) → r < length labels → getD labels r 0 < 2 ^ m) → labelNumber m labels ≡ 0
 unfolding labelNumber
@@ -84,8 +86,8 @@ pub record SlotReady (m r x y : ℕ) : Type 0 where
 pub slot-ready : (m rate x y : ℕ) → slotNumber m rate x y ≡ 0 → SlotReady m rate x y
 unfolding slotNumber
 slot-ready m rate x y h =
-    let a = then-zero (pick (modulationOk m && rateOk rate) 0 1) _ h in
-    let t = pick-yes (modulationOk m && rateOk rate) 0 0 (a .0) .0 in
+    let a = then-zero (pick (modulationOk m && rateOk rate) 0 PLAN) _ h in
+    let t = not-refused (modulationOk m && rateOk rate) PLAN (omega arith) (a .0) in
     record { known = and-left (modulationOk m) _ t; rate = and-right (modulationOk m) _ t; lengths = lengths slotOctets (symbolsOf m) x y (a .1) }
 
 -- what the way back with number 0 had

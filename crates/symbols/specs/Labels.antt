@@ -9,6 +9,7 @@ use Rattle.lists.specs.Count.{every, table}
 use Rattle.refusal.specs.Numbers.{PLAN, LENGTH, LABEL}
 use Rattle.bits.specs.Digits.{digits, number}
 use Rattle.bits.specs.Octets.{bitsOf, octetsOf}
+use Rattle.plan.specs.Sizes.{slotOctets, blockBits, blockOctets}
 use Rattle.plan.specs.Rates.{rateOk, modulationOk, symbolsOf}
 use Rattle.symbols.specs.Index.{rightToLeft, bitAt, rowOf, placeOf}
 
@@ -31,16 +32,9 @@ labelsOfOctets m s leftward octets = labelsOf m s leftward (bitsOf octets)
 unfoldable pub octetsOfLabels : ℕ → ℕ → ℕ → Bool → List ℕ → List ℕ
 octetsOfLabels n m s leftward labels = octetsOf n (bitsOfLabels m s leftward labels)
 
--- "A slot is 44,880 bits (5,610 octets)"
-abbrev pub slotOctets : ℕ
-slotOctets = 5610
-
--- "3,960 octets", "31,680 BPSK labels"
-abbrev pub blockOctets : ℕ
-blockOctets = 3960
-
+-- "31,680 BPSK labels": one for each bit of a TMCC block
 abbrev pub blockLabels : ℕ
-blockLabels = 31680
+blockLabels = blockBits
 
 -- a slot under modulation m and a rate
 abbrev pub labelsOfSlot : ℕ → ℕ → List ℕ → List ℕ

@@ -2,8 +2,6 @@
 ghost use lib.ListN.{length};
 ghost use Rattle.refusal.specs.Answers.{Answered};
 ghost use Rattle.symbols.specs.Labels.{labelsOfSlot, slotOfLabels, labelsOfBlock, blockOfLabels, slotNumber, slotOfLabelsNumber, blockNumber, blockOfLabelsNumber};
-use crate::BLOCK_BITS;
-use crate::SLOT_BITS;
 use crate::numbers::block_number;
 use crate::numbers::block_of_labels_number;
 use crate::numbers::slot_number;
@@ -20,7 +18,7 @@ pub fn labels_of_slot(modulation: u16, rate: u16, slot: &[u8], labels: &mut [u8]
     if number != 0 {
         return number;
     }
-    let mut run = [0u8; SLOT_BITS];
+    let mut run = [0u8; plan::SLOT_BITS];
     label_octets(
         lists::index(modulation),
         right_to_left(modulation, rate),
@@ -39,7 +37,7 @@ pub fn slot_of_labels(modulation: u16, rate: u16, labels: &[u8], slot: &mut [u8]
     if number != 0 {
         return number;
     }
-    let mut run = [0u8; SLOT_BITS];
+    let mut run = [0u8; plan::SLOT_BITS];
     unlabel_octets(
         lists::index(modulation),
         right_to_left(modulation, rate),
@@ -58,7 +56,7 @@ pub fn labels_of_block(block: &[u8], labels: &mut [u8]) -> u8
     if number != 0 {
         return number;
     }
-    let mut run = [0u8; BLOCK_BITS];
+    let mut run = [0u8; plan::BLOCK_BITS];
     label_octets(1, false, block, &mut run, labels);
     0
 }
@@ -71,7 +69,7 @@ pub fn block_of_labels(labels: &[u8], block: &mut [u8]) -> u8
     if number != 0 {
         return number;
     }
-    let mut run = [0u8; BLOCK_BITS];
+    let mut run = [0u8; plan::BLOCK_BITS];
     unlabel_octets(1, false, labels, &mut run, block);
     0
 }

@@ -2,10 +2,6 @@
 ghost use mathlib.Core.Path.{_≡_};
 ghost use Prim.Native.Nat.{_≤_};
 ghost use Rattle.symbols.specs.Labels.{lengthNumber, labelNumber, slotNumber, slotOfLabelsNumber, blockNumber, blockOfLabelsNumber};
-use crate::BLOCK_BITS;
-use crate::BLOCK_OCTETS;
-use crate::SLOT_BITS;
-use crate::SLOT_OCTETS;
 
 // The refusal of a wrong length, or 0: there must be n octets and s labels.
 fn length_number(n: usize, s: usize, octets: usize, labels: usize) -> u8
@@ -43,8 +39,8 @@ pub fn slot_number(modulation: u16, rate: u16, octets: usize, labels: usize) -> 
     if plan::known(modulation, 5) {
         if plan::known(rate, 11) {
             return length_number(
-                SLOT_OCTETS,
-                SLOT_BITS / lists::index(modulation),
+                plan::SLOT_OCTETS,
+                plan::SLOT_BITS / lists::index(modulation),
                 octets,
                 labels,
             );
@@ -68,7 +64,7 @@ pub fn slot_of_labels_number(modulation: u16, rate: u16, labels: &[u8], room: us
 pub fn block_number(octets: usize, labels: usize) -> u8
     ensures { λ r. ⌜ r ≡ blockNumber octets labels ⌝ }
 {
-    length_number(BLOCK_OCTETS, BLOCK_BITS, octets, labels)
+    length_number(plan::BLOCK_OCTETS, plan::BLOCK_BITS, octets, labels)
 }
 
 // What the way back of a block tests: the same, then the labels, of one bit each.

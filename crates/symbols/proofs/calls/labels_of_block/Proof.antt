@@ -5,7 +5,8 @@ use lib.ListN.{length, replicate, length-replicate}
 use borrow.Author.Needs.{needs}
 use Rattle.refusal.specs.AnswerLaws.{refused, accepted}
 use Rattle.symbols.specs.CallLaws.{Lengths, block-ready}
-use Rattle.symbols.specs.Labels.{blockOctets, blockLabels}
+use Rattle.plan.specs.Sizes.{blockBits, blockOctets}
+use Rattle.symbols.specs.Labels.{blockLabels}
 use Rattle.symbols.proofs.Ready.{block-areas, labels-left}
 use Rattle.symbols.proofs.calls.labels_of_block.Statement.{statement}
 use Rattle.symbols.proofs.calls.labels_of_block.Tie as tie
@@ -21,7 +22,7 @@ label-octets-requires : tie.Need-label-octets-requires
 label-octets-requires c κs =
     let b = c .before .before in
     let a = b .before .before .before .before .args in
-    block-areas (a .block .now) (replicate 31680 0) (a .labels .now) (ready b) (length-replicate {A = ℕ} 31680 0)
+    block-areas (a .block .now) (replicate blockBits 0) (a .labels .now) (ready b) (length-replicate {A = ℕ} blockBits 0)
 
 returns-2 : tie.Need-returns-2
 returns-2 c =

@@ -4,6 +4,7 @@ use Prim.Native.Nat.{ℕ}
 use lib.ListN.{length, replicate, length-replicate}
 use borrow.Author.Needs.{needs}
 use Rattle.refusal.specs.AnswerLaws.{refused, accepted}
+use Rattle.plan.specs.Sizes.{slotBits}
 use Rattle.symbols.specs.CallLaws.{SlotReady, slot-ready}
 use Rattle.symbols.proofs.Ready.{slot-areas, labels-left}
 use Rattle.symbols.proofs.calls.labels_of_slot.Statement.{statement}
@@ -21,7 +22,7 @@ label-octets-requires : tie.Need-label-octets-requires
 label-octets-requires c κs =
     let i = c .before .before .before in
     let a = i .before .before .before .before .before .args in
-    slot-areas (a .modulation) (a .rate) (i .index .result) (a .slot .now) (replicate 44880 0) (a .labels .now) (ready (i .before)) (i .index .ensures .0) (length-replicate {A = ℕ} 44880 0)
+    slot-areas (a .modulation) (a .rate) (i .index .result) (a .slot .now) (replicate slotBits 0) (a .labels .now) (ready (i .before)) (i .index .ensures .0) (length-replicate {A = ℕ} slotBits 0)
 
 returns-2 : tie.Need-returns-2
 returns-2 c =

@@ -6,7 +6,8 @@ use borrow.Author.Needs.{needs}
 use borrow.Author.Tests.{leb-true}
 use lib.Dec.{leb}
 use Rattle.lists.specs.ChoiceLaws.{and-left}
-use Rattle.symbols.specs.Labels.{slotOctets, lengthNumber, slotNumber}
+use Rattle.plan.specs.Sizes.{slotBits, slotOctets}
+use Rattle.symbols.specs.Labels.{lengthNumber, slotNumber}
 use Rattle.symbols.proofs.numbers.slot_number.Statement.{statement}
 use Rattle.symbols.proofs.numbers.slot_number.Tie as tie
 
@@ -23,7 +24,7 @@ returns c =
     let t = r .before .before in
     let a = t .before .before .args in
     rw (sym (t .before .known .ensures) ∙ t .if1 .taken, sym (r .before .known2 .ensures) ∙ r .if2 .taken)
-    (c .length-number .ensures ∙ ap (λ (m : ℕ). lengthNumber slotOctets (44880 / m) (a .octets) (a .labels)) (c .before .index .ensures .0))
+    (c .length-number .ensures ∙ ap (λ (m : ℕ). lengthNumber slotOctets (slotBits / m) (a .octets) (a .labels)) (c .before .index .ensures .0))
 
 returns-2 : tie.Need-returns-2
 unfolding slotNumber
