@@ -1,0 +1,65 @@
+-- A received word, read (document 01, "Refusal list"): 8 and 9 in this order; the tail is handed out.
+use mathlib.Core.Bool.{Bool}
+use mathlib.Core.List.{List}
+use Prim.Native.Nat.{ℕ, _+_, _%_, _<_}
+use mathlib.Core.Path.{_≡_}
+use lib.Dec.{eqb}
+use lib.ListN.{take, drop}
+use Rattle.lists.specs.Choice.{pick, andThen}
+use Rattle.lists.specs.Parts.{part}
+use Rattle.refusal.specs.Numbers.{PARITY, BCH}
+use Rattle.bits.specs.Octets.{bitsOf}
+use Rattle.bits.specs.Same.{same}
+use Rattle.bits.specs.Sums.{added}
+use Rattle.dispersal.specs.Dispersal.{dispersed}
+use Rattle.bch.specs.Bch.{bchBits}
+use Rattle.ldpc.specs.Tables.{positions}
+use Rattle.ldpc.specs.Parity.{times, lowestWrong}
+use Rattle.codeword.specs.declared.Shape.{Shape}
+use Rattle.codeword.specs.Words.{runBits, parityInput}
+
+-- the bits before the parity, as received, and the parity bits behind them
+abbrev pub runIn : Shape → List ℕ → List ℕ
+runIn F c = take (runBits F) (bitsOf c)
+
+abbrev pub parityIn : Shape → List ℕ → List ℕ
+parityIn F c = drop (runBits F) (bitsOf c)
+
+-- the first of them "after dispersal is taken off"
+unfoldable pub takenOff : Shape → ℕ → ℕ → List ℕ → List ℕ
+takenOff F mask r c = dispersed (F .width) mask r (runIn F c)
+
+-- of these bits, message, BCH bits and tail
+abbrev pub messageIn : Shape → List ℕ → List ℕ
+messageIn F u = take (F .message) u
+
+abbrev pub bchIn : Shape → List ℕ → List ℕ
+bchIn F u = part (F .message) (F .message + 192) u
+
+abbrev pub tailIn : Shape → List ℕ → List ℕ
+tailIn F u = drop (F .message + 192) u
+
+-- the lowest position at which the parity of a word's bits is wrong, or M: "The parity check stops where the first wrong
+-- position shows"
+unfoldable pub wrongPosition : Shape → List ℕ → List ℕ → ℕ
+wrongPosition F t u = lowestWrong (F .rows) t (parityInput F (take (runBits F) u)) (drop (runBits F) u)
+
+-- 8: "some LDPC parity bit is wrong", from the lowest wrong position
+unfoldable pub parityNumber : Shape → ℕ → ℕ
+parityNumber F wrong = pick (eqb wrong (positions (F .rows))) 0 PARITY
+
+-- 9: "BCH bits wrong after dispersal is taken off"
+unfoldable pub bchRight : Shape → List ℕ → Bool
+bchRight F u = same (bchBits (messageIn F u)) (bchIn F u)
+
+-- 8 and 9, from the lowest wrong position and the bits with dispersal taken off
+unfoldable pub checksNumber : Shape → ℕ → List ℕ → ℕ
+checksNumber F wrong u = andThen (parityNumber F wrong) (pick (bchRight F u) 0 BCH)
+
+unfoldable pub wordNumber : Shape → List ℕ → ℕ → ℕ → List ℕ → ℕ
+wordNumber F t mask r c = checksNumber F (wrongPosition F t (bitsOf c)) (takenOff F mask r c)
+
+-- "the differing bits reach each position an even number of times": those of two words' parity inputs, as sent
+abbrev pub EvenTimes : Shape → List ℕ → List ℕ → List ℕ → Type 0
+EvenTimes F t c d =
+    (j : ℕ) → j < positions (F .rows) → times (F .rows) t (added (parityInput F (runIn F c)) (parityInput F (runIn F d))) j % 2 ≡ 0

@@ -1,0 +1,102 @@
+-- Laws of a received word: its parts, what each of the two checks says of them, and the number that reading answers, 0
+-- exactly when both checks hold.
+use mathlib.Core.Path.{_≡_, sym, ap, _∙_}
+use mathlib.Core.Bool.{true}
+use mathlib.Core.List.{List}
+use mathlib.Core.Logic.{_↔_}
+use Prim.Native.Nat.{ℕ, _+_, _*_}
+use native.Mathlib.Omega.{arith}
+use borrow.Author.Tests.{eqb-true, eq-eqb}
+use lib.Dec.{eqb}
+use lib.ListN.{length, length-drop}
+use lib.Seq.{length-take-le}
+use Rattle.lists.specs.ChoiceLaws.{then-zero, not-refused}
+use Rattle.lists.specs.Runs.{Bits, Octets}
+use Rattle.lists.specs.RunLaws.{below-take, below-drop}
+use Rattle.refusal.specs.Numbers.{PARITY, BCH}
+use Rattle.bits.specs.Octets.{bitsOf}
+use Rattle.bits.specs.OctetLaws.{length-bitsOf, bitsOf-bits}
+use Rattle.bits.specs.SameLaws.{same-is, same-true}
+use Rattle.dispersal.specs.DispersalLaws.{length-dispersed, dispersed-bits}
+use Rattle.bch.specs.Bch.{bchBits}
+use Rattle.ldpc.specs.Tables.{positions}
+use Rattle.ldpc.specs.Parity.{parityOf}
+use Rattle.ldpc.specs.ParityLaws.{lowestWrong-none}
+use Rattle.codeword.specs.declared.Shape.{Shape}
+use Rattle.codeword.specs.Words.{runBits, parityInput}
+use Rattle.codeword.specs.WordLaws.{Fits}
+use Rattle.codeword.specs.Reading.{runIn, parityIn, takenOff, messageIn, bchIn, tailIn, wrongPosition, parityNumber, bchRight, checksNumber, wordNumber}
+
+-- the octets of a received word
+pub record Received (F : Shape) (c : List ℕ) : Type 0 where
+  pub octets : Octets c
+  pub long : length c ≡ F .octets
+
+module _ (F : Shape) (c : List ℕ) where
+  pub runIn-bits : Bits (runIn F c)
+  runIn-bits = below-take 1 (runBits F) (bitsOf c) (bitsOf-bits c)
+
+  pub takenOff-bits : (mask r : ℕ) → Bits (takenOff F mask r c)
+  unfolding takenOff
+  takenOff-bits mask r = dispersed-bits (F .width) mask r (runIn F c)
+
+  pub messageIn-bits : (mask r : ℕ) → Bits (messageIn F (takenOff F mask r c))
+  messageIn-bits mask r = below-take 1 (F .message) (takenOff F mask r c) (takenOff-bits mask r)
+
+  pub tailIn-bits : (mask r : ℕ) → Bits (tailIn F (takenOff F mask r c))
+  tailIn-bits mask r = below-drop 1 (F .message + 192) (takenOff F mask r c) (takenOff-bits mask r)
+
+module _ (F : Shape) (c : List ℕ) (f : Fits F) (l : length c ≡ F .octets) where
+  all-long : length (bitsOf c) ≡ runBits F + positions (F .rows)
+  all-long = length-bitsOf c ∙ ap (λ (n : ℕ). 8 * n) l ∙ sym (f .whole)
+
+  pub runIn-long : length (runIn F c) ≡ runBits F
+  runIn-long = length-take-le (runBits F) (bitsOf c) (omega (arith, all-long))
+
+  pub parityIn-long : length (parityIn F c) ≡ positions (F .rows)
+  parityIn-long = length-drop (runBits F) (bitsOf c) ∙ omega (arith, all-long)
+
+  module _ (mask r : ℕ) where
+    pub takenOff-long : length (takenOff F mask r c) ≡ runBits F
+    unfolding takenOff
+    takenOff-long = length-dispersed (F .width) mask r (runIn F c) ∙ runIn-long
+
+    pub messageIn-long : length (messageIn F (takenOff F mask r c)) ≡ F .message
+    messageIn-long = length-take-le (F .message) (takenOff F mask r c) (omega (arith, takenOff-long))
+
+    pub tailIn-long : length (tailIn F (takenOff F mask r c)) ≡ F .tail
+    tailIn-long = length-drop (F .message + 192) (takenOff F mask r c) ∙ omega (arith, takenOff-long)
+
+  -- 8: the parity received is that of the bits received before it
+  pub parity-right : (t : List ℕ) → (parityNumber F (wrongPosition F t (bitsOf c)) ≡ 0) ↔ (parityIn F c ≡ parityOf (F .rows) t (parityInput F (runIn F c)))
+  unfolding wrongPosition parityNumber
+  parity-right t =
+      let none = lowestWrong-none (F .rows) t (parityInput F (runIn F c)) (parityIn F c) parityIn-long in
+      let least = wrongPosition F t (bitsOf c) in (
+        (λ h. none .0 (eqb-true least (positions (F .rows)) (not-refused (eqb least (positions (F .rows))) PARITY (omega arith) h))),
+        (λ e. rw (eq-eqb least (positions (F .rows)) (none .1 e))),
+      )
+
+-- 9: the BCH bits are those of the message
+pub bch-right : (F : Shape) (u : List ℕ) → (bchRight F u ≡ true) ↔ (bchIn F u ≡ bchBits (messageIn F u))
+unfolding bchRight
+bch-right F u =
+    ((λ e. sym (same-true (bchBits (messageIn F u)) (bchIn F u) e)), (λ e. same-is (bchBits (messageIn F u)) (bchIn F u) (sym e)))
+
+-- a word of which both checks hold
+pub record Good (F : Shape) (t : List ℕ) (mask r : ℕ) (c : List ℕ) : Type 0 where
+  pub parity : parityIn F c ≡ parityOf (F .rows) t (parityInput F (runIn F c))
+  pub bch : bchIn F (takenOff F mask r c) ≡ bchBits (messageIn F (takenOff F mask r c))
+
+-- reading answers 0 exactly when both hold
+pub word-good : (F : Shape) (t : List ℕ) (mask r : ℕ) (c : List ℕ) → Fits F → length c ≡ F .octets → (wordNumber F t mask r c ≡ 0) ↔ Good F t mask r c
+unfolding wordNumber checksNumber
+word-good F t mask r c f l =
+    let u = takenOff F mask r c in
+    let p = parity-right F c f l t in
+    let b = bch-right F u in (
+      (λ h.
+          let a = then-zero (parityNumber F (wrongPosition F t (bitsOf c))) _ h in
+          record { parity = p .0 (a .0); bch = b .0 (not-refused (bchRight F u) BCH (omega arith) (a .1)) }),
+      (λ g. rw (p .1 (g .parity), b .1 (g .bch))),
+    )

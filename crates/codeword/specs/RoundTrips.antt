@@ -1,0 +1,74 @@
+-- Coding and then reading a word, and reading and then coding one. The tail comes back with the message: a word read with
+-- a tail is the word of that tail.
+use mathlib.Core.Path.{_≡_, sym, ap, _∙_}
+use mathlib.Core.List.{List}
+use Prim.Native.Nat.{ℕ}
+use lib.ListN.{length, take-append-drop}
+use Rattle.lists.specs.ThreeRuns.{first-of-three, second-of-three, third-of-three, three-whole}
+use Rattle.bits.specs.Octets.{bitsOf}
+use Rattle.bits.specs.OctetLaws.{octets-bits}
+use Rattle.dispersal.specs.Dispersal.{dispersed}
+use Rattle.dispersal.specs.DispersalLaws.{dispersed-twice}
+use Rattle.bch.specs.Bch.{bchBits}
+use Rattle.bch.specs.BchLaws.{length-bchBits}
+use Rattle.ldpc.specs.Parity.{parityOf}
+use Rattle.codeword.specs.declared.Shape.{Shape}
+use Rattle.codeword.specs.Words.{runBits, plain, sent, parityInput, withParity, wordOf}
+use Rattle.codeword.specs.WordLaws.{Fits, Message, plain-bits, word-run, word-parity, length-wordOf}
+use Rattle.codeword.specs.Reading.{runIn, takenOff, messageIn, bchIn, tailIn, wordNumber}
+use Rattle.codeword.specs.ReadingLaws.{Received, Good, word-good, runIn-bits}
+
+-- what reading finds in the plain bits of a message m with a tail e
+module _ (F : Shape) (m e : List ℕ) (l : length m ≡ F .message) where
+  plain-message : messageIn F (plain m e) ≡ m
+  unfolding plain
+  plain-message = first-of-three m (bchBits m) e (F .message) 192 l (length-bchBits m)
+
+  plain-bch : bchIn F (plain m e) ≡ bchBits m
+  unfolding plain
+  plain-bch = second-of-three m (bchBits m) e (F .message) 192 l (length-bchBits m)
+
+  plain-tail : tailIn F (plain m e) ≡ e
+  unfolding plain
+  plain-tail = third-of-three m (bchBits m) e (F .message) 192 l (length-bchBits m)
+
+-- that reading the word c answers 0 and gives this message and this tail
+pub record ReadsAs (F : Shape) (t : List ℕ) (mask r : ℕ) (c m e : List ℕ) : Type 0 where
+  pub number : wordNumber F t mask r c ≡ 0
+  pub message : messageIn F (takenOff F mask r c) ≡ m
+  pub tail : tailIn F (takenOff F mask r c) ≡ e
+
+module _ (F : Shape) (t : List ℕ) (mask r : ℕ) (m e : List ℕ) (f : Fits F) (o : Message F m e) where
+  -- taking dispersal off a coded word gives the plain bits back
+  pub word-takenOff : takenOff F mask r (wordOf F t mask r m e) ≡ plain m e
+  unfolding takenOff sent
+  word-takenOff =
+      ap (dispersed (F .width) mask r) (word-run F t mask r m e f o)
+      ∙ dispersed-twice (F .width) mask r (plain m e) (plain-bits m e (o .bits) (o .tail-bits))
+
+  good : Good F t mask r (wordOf F t mask r m e)
+  good =
+      record {
+        parity = word-parity F t mask r m e f o ∙ ap (λ (d : List ℕ). parityOf (F .rows) t (parityInput F d)) (sym (word-run F t mask r m e f o));
+        bch = rw word-takenOff (plain-bch F m e (o .long) ∙ ap bchBits (sym (plain-message F m e (o .long))));
+      }
+
+  -- coding and then reading returns message and tail
+  pub coded-read : ReadsAs F t mask r (wordOf F t mask r m e) m e
+  coded-read =
+      record {
+        number = word-good F t mask r (wordOf F t mask r m e) f (length-wordOf F t mask r m e) .1 good;
+        message = ap (messageIn F) word-takenOff ∙ plain-message F m e (o .long);
+        tail = ap (tailIn F) word-takenOff ∙ plain-tail F m e (o .long);
+      }
+
+-- reading an accepted word and coding its message again with its tail, at the same register, returns its octets
+pub read-coded : (F : Shape) (t : List ℕ) (mask r : ℕ) (c : List ℕ) → Fits F → Received F c → wordNumber F t mask r c ≡ 0
+    → wordOf F t mask r (messageIn F (takenOff F mask r c)) (tailIn F (takenOff F mask r c)) ≡ c
+unfolding wordOf withParity sent plain takenOff
+read-coded F t mask r c f o h =
+    let u = takenOff F mask r c in
+    let g = word-good F t mask r c f (o .long) .0 h in
+    let p : plain (messageIn F u) (tailIn F u) ≡ u = rw (← g .bch) (three-whole (F .message) 192 u) in
+    let d : sent F mask r (messageIn F u) (tailIn F u) ≡ runIn F c = ap (dispersed (F .width) mask r) p ∙ dispersed-twice (F .width) mask r (runIn F c) (runIn-bits F c) in
+    rw (d, ← g .parity, take-append-drop (runBits F) (bitsOf c)) (octets-bits (F .octets) c (o .long) (o .octets))
