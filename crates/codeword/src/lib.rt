@@ -1,9 +1,15 @@
 // A codeword: what a slot and a TMCC block are, at other sizes. A message, its BCH bits and tail bits, dispersed, and
 // behind them the parity of these bits with zeros before and behind them.
+mod coding;
 mod input;
+mod reading;
 mod sizes;
 
-pub use input::put_input;
+pub use coding::put_word;
+pub use reading::bare;
+pub use reading::checks_number;
+pub use reading::first_wrong;
+pub use reading::parity_number;
 pub use sizes::run_bits;
 
 // The sizes of a codeword: the width of the dispersal register, the rows of the parity table, the bits of the message
@@ -16,4 +22,11 @@ pub struct Shape {
     pub before: usize,
     pub behind: usize,
     pub octets: usize,
+}
+
+// A received word with its dispersal taken off: the lowest wrong parity position as received, and the register after
+// the word.
+pub struct Bared {
+    pub wrong: usize,
+    pub register: u32,
 }
