@@ -3,21 +3,24 @@ use mathlib.Core.Path.{_≡_}
 use mathlib.Core.Bool.{true, _&&_}
 use mathlib.Core.List.{List}
 use Prim.Native.Nat.{ℕ}
+use native.Mathlib.Omega.{arith}
 use borrow.Author.Tests.{eqb-true, eq-eqb}
 use lib.Dec.{eqb}
 use lib.ListN.{length}
 use Rattle.lists.specs.Choice.{pick}
-use Rattle.lists.specs.ChoiceLaws.{and-left, and-right, then-zero, then-both, pick-yes}
+use Rattle.lists.specs.ChoiceLaws.{and-left, and-right, then-zero, then-both, not-refused}
+use Rattle.refusal.specs.Numbers.{DUMMY, LENGTH, TABLE}
 use Rattle.ldpc.specs.Tables.{tableOk}
 use Rattle.plan.specs.declared.FrameState.{FrameState}
 use Rattle.plan.specs.RateLaws.{Rows, rate-rows}
+use Rattle.plan.specs.Sizes.{slotOctets}
 use Rattle.plan.specs.Plans.{rateOf}
 use Rattle.plan.specs.PlanLaws.{accepted, group-values}
 use Rattle.plan.specs.Places.{groupAt, carries}
 use Rattle.plan.specs.PlaceLaws.{group-holds}
 use Rattle.plan.specs.States.{planIn, stateNumber}
 use Rattle.plan.specs.StateLaws.{Ready, ready, ready-yes}
-use Rattle.slot.specs.Slots.{slotOctets, sourceOctets}
+use Rattle.slot.specs.Slots.{sourceOctets}
 use Rattle.slot.specs.Calls.{rowsAt, dataNumber, lentNumber, slotNumber}
 
 -- a state at a data slot
@@ -40,7 +43,7 @@ unfolding dataNumber
 at-data s h =
     let a = then-zero (stateNumber s) _ h in
     let r = ready s (a .0) in
-    record { ready = r; carries = pick-yes (carries (planIn s) (s .slot)) 0 1 (a .1) .0; rows = rows-known s r }
+    record { ready = r; carries = not-refused (carries (planIn s) (s .slot)) DUMMY (omega arith) (a .1); rows = rows-known s r }
 
 pub data-yes : (s : FrameState) → Ready s → carries (planIn s) (s .slot) ≡ true → dataNumber s ≡ 0
 unfolding dataNumber
@@ -55,12 +58,12 @@ pub record Lent (R : ℕ) (t source coded : List ℕ) : Type 0 where
 pub lent : (R : ℕ) (t source coded : List ℕ) → lentNumber R t source coded ≡ 0 → Lent R t source coded
 unfolding lentNumber
 lent R t source coded h =
-    let a = then-zero (pick (eqb (length source) (sourceOctets R) && eqb (length coded) slotOctets) 0 4) _ h in
-    let b = pick-yes (eqb (length source) (sourceOctets R) && eqb (length coded) slotOctets) 0 3 (a .0) .0 in
+    let a = then-zero (pick (eqb (length source) (sourceOctets R) && eqb (length coded) slotOctets) 0 LENGTH) _ h in
+    let b = not-refused (eqb (length source) (sourceOctets R) && eqb (length coded) slotOctets) LENGTH (omega arith) (a .0) in
     record {
       source-long = eqb-true (length source) (sourceOctets R) (and-left (eqb (length source) (sourceOctets R)) _ b);
       coded-long = eqb-true (length coded) slotOctets (and-right (eqb (length source) (sourceOctets R)) _ b);
-      table = pick-yes (tableOk R t) 0 4 (a .1) .0;
+      table = not-refused (tableOk R t) TABLE (omega arith) (a .1);
     }
 
 -- all that the work on a slot may assume

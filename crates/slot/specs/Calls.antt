@@ -5,16 +5,17 @@ use Prim.Native.Nat.{ℕ}
 use lib.Dec.{eqb}
 use lib.ListN.{length}
 use Rattle.lists.specs.Choice.{pick, andThen}
-use Rattle.refusal.specs.Numbers.{PLAN, DUMMY, LENGTH, TABLE, PARITY}
+use Rattle.refusal.specs.Numbers.{PLAN, DUMMY, LENGTH, TABLE}
 use Rattle.ldpc.specs.Tables.{tableOk}
 use Rattle.plan.specs.declared.FrameState.{FrameState}
 use Rattle.plan.specs.declared.Answer.{Answer}
 use Rattle.plan.specs.Rates.{rateOk, rowsOf}
+use Rattle.plan.specs.Sizes.{slotOctets}
 use Rattle.plan.specs.Plans.{rateOf}
 use Rattle.plan.specs.Places.{groupAt, carries}
 use Rattle.plan.specs.States.{planIn, movedOn, answer, stateNumber}
-use Rattle.slot.specs.Slots.{slotOctets, sourceOctets, slotOf, registerAfter}
-use Rattle.slot.specs.Reading.{receivedNumber, parityRight, sourceOf}
+use Rattle.slot.specs.Slots.{sourceOctets, slotOf, registerAfter}
+use Rattle.slot.specs.Reading.{receivedNumber, sourceOf, checkedNumber}
 
 -- the rows of the parity table at the place of the state's next slot
 unfoldable pub rowsAt : FrameState → ℕ
@@ -64,4 +65,4 @@ checkNumber rate t coded =
     andThen (pick (rateOk rate) 0 PLAN)
     (andThen (pick (eqb (length coded) slotOctets) 0 LENGTH)
     (andThen (pick (tableOk (rowsOf rate) t) 0 TABLE)
-    (pick (parityRight (rowsOf rate) t coded) 0 PARITY)))
+    (checkedNumber (rowsOf rate) t coded)))

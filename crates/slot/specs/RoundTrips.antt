@@ -1,7 +1,7 @@
 -- Coding and then reading a slot, and reading and then coding one: over the definitions of a slot, and over the calls
 -- with their numbers, states and areas. Reading answers 0 exactly when all three checks hold. The state after a slot is
 -- the same whether it was coded or read, read well or not, and it is sound for the next call.
-use mathlib.Core.Path.{_≡_, sym, ap, _∙_}
+use mathlib.Core.Path.{_≡_, sym, ap, ap₂, _∙_}
 use mathlib.Core.Bool.{Bool, true, false, _&&_}
 use mathlib.Core.List.{List}
 use mathlib.Core.Logic.{_↔_, inl, inr}
@@ -10,99 +10,63 @@ use native.Mathlib.Decide.{ℕ-discrete}
 use native.Mathlib.Omega.{arith}
 use borrow.Author.Tests.{eq-eqb}
 use lib.Dec.{eqb, leb}
-use lib.ListN.{length, take-append-drop}
-use lib.Seq.{take-at}
+use lib.ListN.{length}
 use Rattle.lists.specs.Runs.{Octets}
 use Rattle.lists.specs.Choice.{pick, andThen}
 use Rattle.lists.specs.ChoiceLaws.{then-zero, then-next, then-first, then-both}
 use Rattle.lists.specs.Count.{every}
 use Rattle.refusal.specs.Numbers.{PLAN, DUMMY, FULL, LENGTH, TABLE, REGISTER, PARITY}
 use Rattle.bits.specs.Octets.{bitsOf}
-use Rattle.bits.specs.OctetLaws.{bitsOf-bits, octets-bits}
+use Rattle.bits.specs.OctetLaws.{octets-bits}
 use Rattle.dispersal.specs.Register.{registerOk, settingsOk}
 use Rattle.dispersal.specs.RegisterLaws.{after-ok}
-use Rattle.dispersal.specs.Dispersal.{dispersed}
-use Rattle.dispersal.specs.DispersalLaws.{dispersed-twice}
-use Rattle.bch.specs.Bch.{bchBits}
-use Rattle.bch.specs.BchLaws.{length-bchBits}
 use Rattle.ldpc.specs.Tables.{tableOk}
-use Rattle.ldpc.specs.Parity.{parityOf}
 use Rattle.plan.specs.RateLaws.{Rows}
 use Rattle.plan.specs.declared.Plan.{Plan}
 use Rattle.plan.specs.declared.FrameState.{FrameState}
 use Rattle.plan.specs.declared.Answer.{Answer}
 use Rattle.plan.specs.Plans.{groupsOk, valuesOk, fallsAfter, slotsBefore, planNumber}
 use Rattle.plan.specs.Places.{carries}
-use Rattle.plan.specs.States.{slotWidth, planIn, soundNumber, stateNumber}
+use Rattle.plan.specs.Sizes.{slotOctets, slotWidth}
+use Rattle.plan.specs.States.{planIn, soundNumber, stateNumber}
 use Rattle.plan.specs.StateLaws.{sound-yes, moved-sound}
-use Rattle.slot.specs.Slots.{slotOctets, messageBits, sourceOctets, coveredBits, stuffBits, plain, sent, withParity, slotOf, registerAfter}
-use Rattle.slot.specs.SlotLaws.{Source, plain-bits, length-message, slot-covered, slot-parity, length-slotOf, slotOf-octets}
-use Rattle.lists.specs.ThreeRuns.{first-of-three, second-of-three, third-of-three, three-whole}
-use Rattle.slot.specs.Reading.{covered, parity, takenOff, messageIn, bchIn, stuffIn, receivedNumber, sourceOf}
-use Rattle.slot.specs.ReadingLaws.{Received, Good, MovesOn, received-numbers, received-good, covered-bits, sourceOf-source, sourceOf-bits}
+use Rattle.codeword.specs.Words.{wordOf}
+use Rattle.codeword.specs.ReadingLaws.{Received, word-good}
+use Rattle.codeword.specs.RoundTrips.{coded-read as word-back, read-coded as word-again}
+use Rattle.slot.specs.Slots.{sourceOctets, coveredBits, stuffBits, slotShape, slotOf, registerAfter}
+use Rattle.slot.specs.SlotLaws.{Source, fits, message, length-slotOf}
+use Rattle.slot.specs.Reading.{receivedNumber, sourceOf}
+use Rattle.slot.specs.ReadingLaws.{GoodSlot, MovesOn, received-numbers, received-good, sourceOf-source, sourceOf-bits}
 use Rattle.slot.specs.Calls.{rowsAt, dataNumber, lentNumber, slotNumber, nextState, codeAnswer, codeArea, readNumber, readAnswer, readArea}
 use Rattle.slot.specs.CallLaws.{accepted-slot}
-
--- a coded slot, as it is received
-pub slot-received : (R : ℕ) (t : List ℕ) (mask r : ℕ) (source : List ℕ) → Received (slotOf R t mask r source)
-slot-received R t mask r source = record { octets = slotOf-octets R t mask r source; long = length-slotOf R t mask r source }
-
--- what reading finds in the plain bits of a message m
-module _ (R : ℕ) (m : List ℕ) (l : length m ≡ messageBits R) where
-  pub plain-message : messageIn R (plain m) ≡ m
-  unfolding plain
-  plain-message = take-at m _ (messageBits R) l
-
-  pub plain-bch : bchIn R (plain m) ≡ bchBits m
-  unfolding plain
-  plain-bch = second-of-three m (bchBits m) stuffBits (messageBits R) 192 l (length-bchBits m)
-
-  pub plain-stuff : stuffIn R (plain m) ≡ stuffBits
-  unfolding plain
-  plain-stuff = third-of-three m (bchBits m) stuffBits (messageBits R) 192 l (length-bchBits m)
 
 -- that reading the slot c answers 0 and gives these header and data octets
 pub record ReadsAs (R : ℕ) (t : List ℕ) (mask r : ℕ) (c octets : List ℕ) : Type 0 where
   pub number : receivedNumber R t mask r c ≡ 0
   pub source : sourceOf R mask r c ≡ octets
 
-module _ (R : ℕ) (t : List ℕ) (mask r : ℕ) (source : List ℕ) (w : Rows R) (o : Source R source) where
-  -- taking dispersal off a coded slot gives the plain bits back
-  pub slot-takenOff : takenOff R mask r (slotOf R t mask r source) ≡ plain (bitsOf source)
-  unfolding takenOff sent
-  slot-takenOff =
-      ap (dispersed slotWidth mask r) (slot-covered R t mask r source w (o .long))
-      ∙ dispersed-twice slotWidth mask r (plain (bitsOf source)) (plain-bits (bitsOf source) (bitsOf-bits source))
-
-  slot-good : Good R t mask r (slotOf R t mask r source)
-  slot-good =
-      let m = bitsOf source in
-      let l = length-message R source w (o .long) in
-      record {
-        parity = slot-parity R t mask r source w (o .long) ∙ ap (parityOf R t) (sym (slot-covered R t mask r source w (o .long)));
-        bch = rw slot-takenOff (plain-bch R m l ∙ ap bchBits (sym (plain-message R m l)));
-        stuff = rw slot-takenOff (plain-stuff R m l);
-      }
-
-  -- coding and then reading returns header and data
-  pub coded-read : ReadsAs R t mask r (slotOf R t mask r source) source
-  unfolding sourceOf
-  coded-read =
-      record {
-        number = received-good R t mask r (slotOf R t mask r source) w (length-slotOf R t mask r source) .1 slot-good;
-        source = rw (slot-takenOff, plain-message R (bitsOf source) (length-message R source w (o .long))) (octets-bits (sourceOctets R) source (o .long) (o .octets));
-      }
+-- coding and then reading returns header and data
+pub coded-read : (R : ℕ) (t : List ℕ) (mask r : ℕ) (source : List ℕ) → Rows R → Source R source → ReadsAs R t mask r (slotOf R t mask r source) source
+unfolding sourceOf slotOf
+coded-read R t mask r source w o =
+    let F = slotShape R in
+    let c = slotOf R t mask r source in
+    let long = length-slotOf R t mask r source in
+    let b = word-back F t mask r (bitsOf source) stuffBits (fits R w) (message R source w (o .long)) in
+    record {
+      number = received-good R t mask r c w long .1 (record { word = word-good F t mask r c (fits R w) long .0 (b .number); stuff = b .tail });
+      source = rw (b .message) (octets-bits (sourceOctets R) source (o .long) (o .octets));
+    }
 
 -- reading an accepted slot and coding it again at the same register returns its octets
-pub read-coded : (R : ℕ) (t : List ℕ) (mask r : ℕ) (c : List ℕ) → Rows R → Received c → receivedNumber R t mask r c ≡ 0
+pub read-coded : (R : ℕ) (t : List ℕ) (mask r : ℕ) (c : List ℕ) → Rows R → Received (slotShape R) c → receivedNumber R t mask r c ≡ 0
     → slotOf R t mask r (sourceOf R mask r c) ≡ c
-unfolding slotOf withParity sent plain takenOff
+unfolding slotOf
 read-coded R t mask r c w o h =
-    let u = takenOff R mask r c in
+    let F = slotShape R in
     let g = received-good R t mask r c w (o .long) .0 h in
-    let p : plain (messageIn R u) ≡ u = rw (← g .bch, ← g .stuff) (three-whole (messageBits R) 192 u) in
-    let d : sent mask r (messageIn R u) ≡ covered R c = ap (dispersed slotWidth mask r) p ∙ dispersed-twice slotWidth mask r (covered R c) (covered-bits R c) in
-    rw (sourceOf-bits R mask r c w (o .long), d, ← g .parity, take-append-drop (coveredBits R) (bitsOf c)) (octets-bits slotOctets c (o .long) (o .octets))
+    ap₂ (wordOf F t mask r) (sourceOf-bits R mask r c w (o .long)) (sym (g .stuff))
+    ∙ word-again F t mask r c (fits R w) o (word-good F t mask r c (fits R w) (o .long) .1 (g .word))
 
 -- of the lent areas only the lengths count for the number of a call
 pub slotNumber-lengths : (s : FrameState) (t source coded source′ coded′ : List ℕ) → length source ≡ length source′ → length coded ≡ length coded′
@@ -112,7 +76,7 @@ slotNumber-lengths s t source coded source′ coded′ l m = rw (l, m)
 
 -- a reading that is refused for nothing before the slot itself is read answers 0 exactly when all three checks hold
 pub read-good : (s : FrameState) (t coded source : List ℕ) → slotNumber s t source coded ≡ 0
-    → (readAnswer s t coded source .number ≡ 0) ↔ Good (rowsAt s) t (s .mask) (s .register) coded
+    → (readAnswer s t coded source .number ≡ 0) ↔ GoodSlot (rowsAt s) t (s .mask) (s .register) coded
 unfolding readAnswer readNumber
 read-good s t coded source h =
     let a = accepted-slot s t source coded h in

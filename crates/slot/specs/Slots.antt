@@ -1,18 +1,13 @@
 -- A coded slot (document 01, "Rates and slot" and "Checks in the slot"), for R rows, a parity table t, the tap mask and
--- the register before the slot.
-use mathlib.Core.List.{List, _++_}
+-- the register before the slot: a codeword of header and data with six ones behind the BCH bits.
+use mathlib.Core.List.{List}
 use Prim.Native.Nat.{ℕ, _+_, _-_, _*_, _/_}
 use lib.ListN.{replicate}
-use Rattle.bits.specs.Octets.{bitsOf, octetsOf}
+use Rattle.bits.specs.Octets.{bitsOf}
 use Rattle.dispersal.specs.Register.{after}
-use Rattle.dispersal.specs.Dispersal.{dispersed}
-use Rattle.bch.specs.Bch.{bchBits}
-use Rattle.ldpc.specs.Parity.{parityOf}
-use Rattle.plan.specs.States.{slotWidth}
-
--- "A slot is 44,880 bits (5,610 octets)"
-abbrev pub slotOctets : ℕ
-slotOctets = 5610
+use Rattle.plan.specs.Sizes.{slotOctets, slotWidth}
+use Rattle.codeword.specs.declared.Shape.{Shape}
+use Rattle.codeword.specs.Words.{wordOf}
 
 -- "header 176, data 374 × (R − 1)"
 unfoldable pub messageBits : ℕ → ℕ
@@ -30,22 +25,14 @@ coveredBits R = 374 * R
 abbrev pub stuffBits : List ℕ
 stuffBits = replicate 6 1
 
--- header and data, BCH bits and stuff bits: "Header and data are the message"
-unfoldable pub plain : List ℕ → List ℕ
-plain m = m ++ (bchBits m ++ stuffBits)
+-- the sizes of a slot: "header 176, data 374 × (R − 1), BCH 192, stuff bits 6", and parity over these bits alone
+abbrev pub slotShape : ℕ → Shape
+slotShape R = record { width = slotWidth; rows = R; message = messageBits R; tail = 6; before = 0; behind = 0; octets = slotOctets }
 
--- dispersal "covers header, data, BCH and stuff bits"
-unfoldable pub sent : ℕ → ℕ → List ℕ → List ℕ
-sent mask r m = dispersed slotWidth mask r (plain m)
-
--- "Parity: computed over the dispersed bits"
-unfoldable pub withParity : ℕ → List ℕ → List ℕ → List ℕ
-withParity R t d = d ++ parityOf R t d
-
--- the slot of header and data octets
+-- the slot of header and data octets: "Header and data are the message"
 unfoldable pub slotOf : ℕ → List ℕ → ℕ → ℕ → List ℕ → List ℕ
-slotOf R t mask r source = octetsOf slotOctets (withParity R t (sent mask r (bitsOf source)))
+slotOf R t mask r source = wordOf (slotShape R) t mask r (bitsOf source) stuffBits
 
--- the register after a slot: it "stands still over parity and dummies"
+-- the register after a slot: it "covers header, data, BCH and stuff bits, and stands still over parity and dummies"
 unfoldable pub registerAfter : ℕ → ℕ → ℕ → ℕ
 registerAfter R mask r = after slotWidth mask r (coveredBits R)

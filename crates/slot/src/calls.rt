@@ -6,8 +6,6 @@ ghost use Rattle.slot.specs.Calls.{rowsAt, dataNumber, lentNumber, slotN
 use crate::sizes::source_octets;
 use plan::FrameState;
 
-const SLOT_OCTETS: usize = 5610;
-
 // The rows of the parity table at the place of a state's next slot.
 pub fn rows_at(state: FrameState) -> usize
     requires { ⌜ stateNumber state ≡ 0 ⌝ }
@@ -40,7 +38,7 @@ fn lent_number(rows: usize, table: &[u16], source: &[u8], coded: &[u8]) -> u8
     if source.len() != source_octets(rows) {
         return refusal::LENGTH;
     }
-    if coded.len() != SLOT_OCTETS {
+    if coded.len() != plan::SLOT_OCTETS {
         return refusal::LENGTH;
     }
     if ldpc::table_ok(rows, table) {

@@ -5,6 +5,6 @@ mod sizes;
 pub use calls::data_number;
 pub use calls::rows_at;
 pub use calls::slot_number;
-pub use sizes::covered_bits;
 pub use sizes::message_bits;
+pub use sizes::shape;
 pub use sizes::source_octets;

@@ -16,8 +16,8 @@ pub fn code_slot(state: FrameState, table: &[u16], source: &[u8], coded: &mut [u
         return Answer { number, state };
     }
     let rows = slot::rows_at(state);
-    let mut bits = [0u8; 44880];
-    let mut sums = [0u8; 29546];
+    let mut bits = [0u8; plan::SLOT_BITS];
+    let mut input = [0u8; plan::SLOT_BITS];
     let register = put_slot(
         rows,
         table,
@@ -25,7 +25,7 @@ pub fn code_slot(state: FrameState, table: &[u16], source: &[u8], coded: &mut [u
         state.register,
         source,
         &mut bits,
-        &mut sums,
+        &mut input,
         coded,
     );
     let next = plan::advanced(state, register);

@@ -41,7 +41,7 @@ put-slot-requires c κs =
       table = rw e (g .areas .table);
       source-long = rw e (g .areas .source-long);
       bits-long = length-replicate {A = ℕ} 44880 0;
-      sums-long = length-replicate {A = ℕ} 29546 0;
+      input-long = length-replicate {A = ℕ} 44880 0;
       coded-long = g .areas .coded-long;
     }
 
