@@ -1,4 +1,4 @@
-pub mod Stages
-pub mod StageLaws
+pub mod Forms
+pub mod FormLaws
 pub mod ReadLaws
 pub mod Needs

@@ -2,40 +2,34 @@
 use mathlib.Core.Path.{_≡_}
 use mathlib.Core.Bool.{true}
 use mathlib.Core.List.{List}
-use Prim.Native.Nat.{ℕ, _*_, _^_, _<_, _≤_}
+use Prim.Native.Nat.{ℕ, _^_, _<_}
 use lib.ListN.{length}
 use Rattle.lists.specs.Runs.{Bits}
-use Rattle.ldpc.specs.Tables.{positions, tableOk}
+use Rattle.ldpc.specs.Tables.{tableOk}
 use Rattle.plan.specs.RateLaws.{Rows}
-use Rattle.plan.specs.States.{slotWidth}
-use Rattle.slot.specs.Slots.{slotOctets, sourceOctets, coveredBits}
+use Rattle.plan.specs.Sizes.{slotBits, slotOctets, slotWidth, mostParity}
+use Rattle.codeword.specs.Words.{runBits}
+use Rattle.slot.specs.Slots.{sourceOctets, slotShape}
 
--- a slot's bits and an accepted table, with room for the sums of the parity
-pub record Checked (R : ℕ) (t bits sums : List ℕ) : Type 0 where
+-- a slot's octets and an accepted table, and areas for its bits, its parity input and its sums at any rate
+pub record Checked (R : ℕ) (t coded bits input sums : List ℕ) : Type 0 where
   pub rate : Rows R
   pub table : tableOk R t ≡ true
-  pub all : length bits ≡ 8 * slotOctets
-  pub room : positions R ≤ length sums
-
--- the same, with the slot's octets, and room for its bits
-pub record Received (R : ℕ) (t coded bits sums : List ℕ) : Type 0 where
-  pub checked : Checked R t bits sums
   pub whole : length coded ≡ slotOctets
+  pub bits-long : length bits ≡ slotBits
+  pub input-long : length input ≡ slotBits
+  pub sums-long : length sums ≡ mostParity
 
--- the same, with a register
-pub record Stepped (R : ℕ) (t : List ℕ) (register : ℕ) (coded bits sums : List ℕ) : Type 0 where
-  pub received : Received R t coded bits sums
-  pub held : register < 2 ^ slotWidth
-
--- the same, with an area for header and data octets
-pub record Readable (R : ℕ) (t : List ℕ) (register : ℕ) (coded bits sums source : List ℕ) : Type 0 where
-  pub stepped : Stepped R t register coded bits sums
+-- the same, with a register and an area for header and data octets
+pub record Readable (R r : ℕ) (t coded bits input sums source : List ℕ) : Type 0 where
+  pub checked : Checked R t coded bits input sums
+  pub held : r < 2 ^ slotWidth
   pub long : length source ≡ sourceOctets R
 
 -- the bits before the parity
 pub record Plain (R : ℕ) (run : List ℕ) : Type 0 where
   pub rate : Rows R
-  pub all : length run ≡ coveredBits R
+  pub all : length run ≡ runBits (slotShape R)
   pub bits : Bits run
 
 -- the same, with an area for header and data octets

@@ -1,30 +1,50 @@
 // The lone parity check.
 ghost use mathlib.Core.Path.{_≡_};
+ghost use Rattle.slot.specs.Reading.{checkedNumber};
 ghost use Rattle.slot.specs.Calls.{checkNumber};
-ghost use Rattle.slot_reader.specs.Stages.{formNumber};
-use crate::parity::MOST_POSITIONS;
-use crate::parity::SLOT_BITS;
-use crate::parity::parity_number;
-
-const SLOT_OCTETS: usize = 5610;
+ghost use Rattle.slot_reader.specs.Needs.{Checked};
+ghost use Rattle.slot_reader.specs.Forms.{formNumber};
 
 // The refusal of the rate, of the slot's length or of the table, or 0.
 fn form_number(rate: u16, table: &[u16], coded: &[u8]) -> u8
     ensures { λ r. ⌜ r ≡ formNumber rate (now (table .entry)) (now (coded .entry)) ⌝ }
 {
-    if rate < 1 {
+    if !plan::known(rate, 11) {
         return refusal::PLAN;
     }
-    if 11 < rate {
-        return refusal::PLAN;
-    }
-    if coded.len() != SLOT_OCTETS {
+    if coded.len() != plan::SLOT_OCTETS {
         return refusal::LENGTH;
     }
     if ldpc::table_ok(plan::rows(rate), table) {
         return 0;
     }
     refusal::TABLE
+}
+
+// The refusal of a received slot for its parity, or 0. The areas hold the slot's bits, its parity input and its sums.
+fn checked_number(
+    rows: usize,
+    table: &[u16],
+    coded: &[u8],
+    bits: &mut [u8],
+    input: &mut [u8],
+    sums: &mut [u8],
+) -> u8
+    requires { ⌜ Checked rows (now table) (now coded) (now bits) (now input) (now sums) ⌝ }
+    ensures { λ r. ⌜ r ≡ checkedNumber rows (now (table .entry)) (now (coded .entry)) ⌝ }
+{
+    let shape = slot::shape(rows);
+    let end = 374 * rows;
+    let positions = 374 * (120 - rows);
+    bits::expand(coded, bits);
+    let wrong = codeword::first_wrong(
+        shape,
+        table,
+        bits,
+        &mut input[0..end],
+        &mut sums[0..positions],
+    );
+    codeword::parity_number(shape, wrong)
 }
 
 // Checks the parity of a slot of a rate, whatever its dispersal.
@@ -35,7 +55,15 @@ pub fn check_parity(rate: u16, table: &[u16], coded: &[u8]) -> u8
     if number != 0 {
         return number;
     }
-    let mut bits = [0u8; SLOT_BITS];
-    let mut sums = [0u8; MOST_POSITIONS];
-    parity_number(plan::rows(rate), table, coded, &mut bits, &mut sums)
+    let mut bits = [0u8; plan::SLOT_BITS];
+    let mut input = [0u8; plan::SLOT_BITS];
+    let mut sums = [0u8; plan::MOST_PARITY];
+    checked_number(
+        plan::rows(rate),
+        table,
+        coded,
+        &mut bits,
+        &mut input,
+        &mut sums,
+    )
 }

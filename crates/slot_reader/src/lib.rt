@@ -1,7 +1,5 @@
 // Reading a slot, and the lone parity check.
 mod check;
-mod parity;
-mod plain;
 mod reader;
 mod received;
 

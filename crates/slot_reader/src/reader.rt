@@ -1,8 +1,6 @@
 // The call that reads a slot.
 ghost use mathlib.Core.Path.{_≡_};
 ghost use Rattle.slot.specs.Calls.{readAnswer, readArea};
-use crate::parity::MOST_POSITIONS;
-use crate::parity::SLOT_BITS;
 use crate::received;
 use plan::Answer;
 use plan::FrameState;
@@ -17,8 +15,9 @@ pub fn read_slot(state: FrameState, table: &[u16], coded: &[u8], source: &mut [u
     if number != 0 {
         return Answer { number, state };
     }
-    let mut bits = [0u8; SLOT_BITS];
-    let mut sums = [0u8; MOST_POSITIONS];
+    let mut bits = [0u8; plan::SLOT_BITS];
+    let mut input = [0u8; plan::SLOT_BITS];
+    let mut sums = [0u8; plan::MOST_PARITY];
     let rows = slot::rows_at(state);
     let read = received::read(
         rows,
@@ -27,6 +26,7 @@ pub fn read_slot(state: FrameState, table: &[u16], coded: &[u8], source: &mut [u
         state.register,
         coded,
         &mut bits,
+        &mut input,
         &mut sums,
         source,
     );

@@ -1,17 +1,17 @@
 -- `slot_reader::reader::read_slot`: refused as the slot call is, or the received slot's number and octets.
 use mathlib.Core.Path.{_≡_, refl, sym, ap, subst, _∙_}
 use Prim.Native.Nat.{ℕ}
-use native.Mathlib.Omega.{arith}
 use borrow.Author.Needs.{needs}
+use lib.ListN.{length-replicate}
 use Rattle.lists.specs.ChoiceLaws.{then-zero}
 use Rattle.dispersal.specs.RegisterLaws.{register-is}
-use Rattle.plan.specs.States.{slotWidth, movedOn, stateNumber}
+use Rattle.plan.specs.Sizes.{slotWidth}
+use Rattle.plan.specs.States.{movedOn, stateNumber}
 use Rattle.slot.specs.Slots.{sourceOctets}
 use Rattle.slot.specs.Calls.{slotNumber, dataNumber}
 use Rattle.slot.specs.CallLaws.{Accepted-slot, accepted-slot}
-use Rattle.slot_reader.specs.Stages.{ReadOf}
+use Rattle.slot_reader.specs.Forms.{ReadOf}
 use Rattle.slot_reader.specs.ReadLaws.{answer≡, readAnswer-refused, readArea-refused, readAnswer-looked, readArea-looked}
-use Rattle.slot_reader.proofs.Areas.{areas}
 use Rattle.slot_reader.proofs.reader.read_slot.Statement.{statement}
 use Rattle.slot_reader.proofs.reader.read_slot.Tie as tie
 
@@ -40,29 +40,34 @@ rows-at-requires c κs =
 
 read-requires : tie.Need-read-requires
 read-requires c κs =
-    let n = c .before .before .before in
+    let n = c .before .before .before .before in
     let a = n .before .before .before .before .before .before .before .args in
     let r = ready (n .before) in
     let e = n .rows-at .ensures in
     record {
-      stepped = record {
-        received = areas (n .rows-at .result) (a .table .now) (a .coded .now) 44880 29546 (rw e (r .place .rows)) (rw e (r .areas .table)) (r .areas .coded-long) refl (omega arith);
-        held = register-is slotWidth (a .state .register) (r .place .ready .sound .register) .high;
+      checked = record {
+        rate = rw e (r .place .rows);
+        table = rw e (r .areas .table);
+        whole = r .areas .coded-long;
+        bits-long = length-replicate {A = ℕ} 44880 0;
+        input-long = length-replicate {A = ℕ} 44880 0;
+        sums-long = length-replicate {A = ℕ} 29546 0;
       };
+      held = register-is slotWidth (a .state .register) (r .place .ready .sound .register) .high;
       long = r .areas .source-long ∙ ap sourceOctets (sym e);
     }
 
 advanced-requires : tie.Need-advanced-requires
-advanced-requires c κs = ready (c .before .before .before .before .before .before .before .before .before) .place .ready .left
+advanced-requires c κs = ready (c .before .before .before .before .before .before .before .before .before .before .before) .place .ready .left
 
 returns-2 : tie.Need-returns-2
 returns-2 c =
-    let r = c .before .before .before .before .before in
-    let n = r .before .before .before .before in
+    let r = c .before .before .before .before .before .before in
+    let n = r .before .before .before .before .before in
     let a = n .before .before .before .before .before .before .before .args in
     let p = passed (n .before) in
     let s = a .state in
-    let o = subst (λ (R : ℕ). ReadOf R (a .table .now) (s .mask) (s .register) (a .coded .now) (a .source .now) (r .read .result .number) (r .read .result .register) (r .read .last .1 .1 .1 .1 .1 .1 .1 .0)) (n .rows-at .ensures) (r .read .ensures) in (
+    let o = subst (λ (R : ℕ). ReadOf R (a .table .now) (s .mask) (s .register) (a .coded .now) (a .source .now) (r .read .result .number) (r .read .result .register) (r .read .last .1 .1 .1 .1 .1 .1 .1 .1 .0)) (n .rows-at .ensures) (r .read .ensures) in (
       answer≡ (o .number) (c .advanced .ensures ∙ ap (movedOn s) (o .register)) ∙ sym (readAnswer-looked s (a .table .now) (a .coded .now) (a .source .now) p),
       o .area ∙ sym (readArea-looked s (a .table .now) (a .coded .now) (a .source .now) p),
     )
@@ -75,6 +80,7 @@ read-slot-spec =
     (λ c. search needs)
     returns
     rows-at-requires
+    (λ c. search needs)
     (λ c. search needs)
     (λ c. search needs)
     read-requires

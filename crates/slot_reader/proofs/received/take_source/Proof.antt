@@ -6,10 +6,10 @@ use lib.Seq.{length-take-le}
 use borrow.Author.Needs.{needs}
 use borrow.Author.Tests.{eq-eqb, ne-eqb}
 use Rattle.lists.specs.RunLaws.{below-take}
+use Rattle.lists.specs.PartLaws.{take-lent}
 use Rattle.bits.specs.Octets.{octetsOf}
 use Rattle.slot.specs.Slots.{messageBits}
 use Rattle.slot.specs.SlotLaws.{sizes}
-use Rattle.lists.specs.PartLaws.{take-lent}
 use Rattle.slot_reader.proofs.received.take_source.Statement.{statement}
 use Rattle.slot_reader.proofs.received.take_source.Tie as tie
 
@@ -33,11 +33,11 @@ returns c =
     let n = k .before .before in
     let s = n .before .before .before in
     let a = s .args in
-    let e = sym (k .before .if1 .taken) ∙ n .received-number .ensures in
+    let e = sym (k .before .if1 .taken) ∙ n .plain-number .ensures in
     (e, rw (eq-eqb _ 0 (sym e)) (o .collect .ensures ∙ ap₂ octetsOf (s .pre .long) (take-lent _ (messageBits (a .rows)) (a .plain .now) (k .message-bits .ensures))))
 
 returns-2 : tie.Need-returns-2
-returns-2 c = (c .before .received-number .ensures, rw (← c .before .received-number .ensures, ne-eqb _ 0 (c .if1 .left)))
+returns-2 c = (c .before .plain-number .ensures, rw (← c .before .plain-number .ensures, ne-eqb _ 0 (c .if1 .left)))
 
 pub take-source-spec : {M : Type 1} → statement M
 take-source-spec =
