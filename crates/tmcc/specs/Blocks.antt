@@ -1,15 +1,12 @@
--- A coded TMCC block (document 01, "TMCC block"), for a rate 3 parity table t, and the mask and the start of the register.
-use mathlib.Core.List.{List, _++_}
+-- A coded TMCC block (document 01, "TMCC block"), for a rate 3 parity table t, and the mask and the start of the register:
+-- a codeword of the TMCC bits with no tail, and with zeros before and behind it in the parity input.
+use mathlib.Core.List.{List, []}
 use Prim.Native.Nat.{ℕ}
-use lib.ListN.{take, replicate}
-use Rattle.bits.specs.Octets.{bitsOf, octetsOf}
-use Rattle.dispersal.specs.Dispersal.{dispersed}
-use Rattle.bch.specs.Bch.{bchBits}
-use Rattle.ldpc.specs.Parity.{parityOf}
-
--- "a 15-bit register of the same kind (top weight 2^14)"
-abbrev pub blockWidth : ℕ
-blockWidth = 15
+use lib.ListN.{take}
+use Rattle.bits.specs.Octets.{bitsOf}
+use Rattle.plan.specs.Sizes.{blockOctets, blockWidth}
+use Rattle.codeword.specs.declared.Shape.{Shape}
+use Rattle.codeword.specs.Words.{wordOf}
 
 -- "The rate 3 parity input": the 61 rows of rate 3
 abbrev pub blockRows : ℕ
@@ -22,41 +19,15 @@ sourceOctets = 1178
 abbrev pub messageBits : ℕ
 messageBits = 9422
 
--- "those 9,614 bits": TMCC and BCH bits
-abbrev pub runBits : ℕ
-runBits = 9614
-
--- "3,960 octets"
-abbrev pub blockOctets : ℕ
-blockOctets = 3960
+-- the sizes of a block: "The rate 3 parity input is 1,870 zeros, the 9,422 bits, their 192 BCH bits, 11,330 zeros", "There
+-- are no stuff bits"
+abbrev pub blockShape : Shape
+blockShape = record { width = blockWidth; rows = blockRows; message = messageBits; tail = 0; before = 1870; behind = 11330; octets = blockOctets }
 
 -- the TMCC bits that the octets hold
 unfoldable pub messageOf : List ℕ → List ℕ
 messageOf source = take messageBits (bitsOf source)
 
--- TMCC bits and "their 192 BCH bits"
-unfoldable pub plain : List ℕ → List ℕ
-plain m = m ++ bchBits m
-
--- "Only TMCC and BCH bits are dispersed", by a register "begun anew for each block"
-unfoldable pub sent : ℕ → ℕ → List ℕ → List ℕ
-sent mask start m = dispersed blockWidth mask start (plain m)
-
--- the zeros before and behind them in the parity input: "1,870 zeros", "11,330 zeros"
-unfoldable pub zerosBefore : List ℕ
-zerosBefore = replicate 1870 0
-
-unfoldable pub zerosBehind : List ℕ
-zerosBehind = replicate 11330 0
-
--- "The rate 3 parity input is 1,870 zeros, the 9,422 bits, their 192 BCH bits, 11,330 zeros"
-unfoldable pub parityInput : List ℕ → List ℕ
-parityInput d = zerosBefore ++ (d ++ zerosBehind)
-
--- "Sent: those 9,614 bits, dispersed, and 22,066 parity bits"
-unfoldable pub withParity : List ℕ → List ℕ → List ℕ
-withParity t d = d ++ parityOf blockRows t (parityInput d)
-
--- the block of the octets
+-- the block of the octets, its register "begun anew for each block"
 unfoldable pub blockOf : List ℕ → ℕ → ℕ → List ℕ → List ℕ
-blockOf t mask start source = octetsOf blockOctets (withParity t (sent mask start (messageOf source)))
+blockOf t mask start source = wordOf blockShape t mask start (messageOf source) []

@@ -10,15 +10,17 @@ use lib.Dec.{eqb}
 use lib.ListN.{length, drop, replicate, length-drop}
 use lib.Seq.{take-all}
 use Rattle.lists.specs.Choice.{pick}
-use Rattle.lists.specs.ChoiceLaws.{then-zero, pick-yes, and-left, and-right}
+use Rattle.lists.specs.ChoiceLaws.{then-zero, not-refused, and-left, and-right}
 use Rattle.lists.specs.RunLaws.{below-drop}
+use Rattle.refusal.specs.Numbers.{LENGTH, TABLE, REGISTER, TAIL}
 use Rattle.bits.specs.Digits.{digits, number}
 use Rattle.bits.specs.DigitLaws.{digits-number}
 use Rattle.bits.specs.Octets.{bitsOf}
 use Rattle.bits.specs.OctetLaws.{length-bitsOf, bitsOf-bits}
 use Rattle.dispersal.specs.Register.{maskOk, registerOk, settingsOk}
 use Rattle.ldpc.specs.Tables.{tableOk}
-use Rattle.tmcc.specs.Blocks.{blockWidth, blockRows, sourceOctets, messageBits, blockOctets}
+use Rattle.plan.specs.Sizes.{blockOctets, blockWidth}
+use Rattle.tmcc.specs.Blocks.{blockRows, sourceOctets, messageBits}
 use Rattle.tmcc.specs.Calls.{lentNumber, tailOk, codeNumber}
 
 -- accepted settings and table, and areas of the right lengths
@@ -32,16 +34,16 @@ pub record Lent (mask start : ℕ) (t source block : List ℕ) : Type 0 where
 pub lent : (mask start : ℕ) (t source block : List ℕ) → lentNumber mask start t source block ≡ 0 → Lent mask start t source block
 unfolding lentNumber
 lent mask start t source block h =
-    let a = then-zero (pick (settingsOk blockWidth mask start) 0 6) _ h in
-    let s = pick-yes (settingsOk blockWidth mask start) 0 5 (a .0) .0 in
-    let b = then-zero (pick (eqb (length source) sourceOctets && eqb (length block) blockOctets) 0 4) _ (a .1) in
-    let l = pick-yes (eqb (length source) sourceOctets && eqb (length block) blockOctets) 0 3 (b .0) .0 in
+    let a = then-zero (pick (settingsOk blockWidth mask start) 0 REGISTER) _ h in
+    let s = not-refused (settingsOk blockWidth mask start) REGISTER (omega arith) (a .0) in
+    let b = then-zero (pick (eqb (length source) sourceOctets && eqb (length block) blockOctets) 0 LENGTH) _ (a .1) in
+    let l = not-refused (eqb (length source) sourceOctets && eqb (length block) blockOctets) LENGTH (omega arith) (b .0) in
     record {
       mask-ok = and-left (maskOk blockWidth mask) _ s;
       start-ok = and-right (maskOk blockWidth mask) _ s;
       source-long = eqb-true (length source) sourceOctets (and-left (eqb (length source) sourceOctets) _ l);
       block-long = eqb-true (length block) blockOctets (and-right (eqb (length source) sourceOctets) _ l);
-      table = pick-yes (tableOk blockRows t) 0 4 (b .1) .0;
+      table = not-refused (tableOk blockRows t) TABLE (omega arith) (b .1);
     }
 
 -- two zeros are the number 0
@@ -74,4 +76,4 @@ pub codable : (mask start : ℕ) (t source block : List ℕ) → codeNumber mask
 unfolding codeNumber
 codable mask start t source block h =
     let a = then-zero (lentNumber mask start t source block) _ h in
-    record { lent = lent mask start t source block (a .0); tail = pick-yes (tailOk source) 0 10 (a .1) .0 }
+    record { lent = lent mask start t source block (a .0); tail = not-refused (tailOk source) TAIL (omega arith) (a .1) }

@@ -10,8 +10,9 @@ use Rattle.bits.specs.Digits.{number}
 use Rattle.bits.specs.Octets.{bitsOf}
 use Rattle.dispersal.specs.Register.{settingsOk}
 use Rattle.ldpc.specs.Tables.{tableOk}
-use Rattle.tmcc.specs.Blocks.{blockWidth, blockRows, sourceOctets, messageBits, blockOctets}
-use Rattle.tmcc.specs.Reading.{receivedNumber}
+use Rattle.plan.specs.Sizes.{blockOctets, blockWidth}
+use Rattle.codeword.specs.Reading.{wordNumber}
+use Rattle.tmcc.specs.Blocks.{blockRows, sourceOctets, messageBits, blockShape}
 
 -- "6, 4, 5": the settings, the 1,178 and the 3,960 octets, and the parity table
 unfoldable pub lentNumber : ℕ → ℕ → List ℕ → List ℕ → List ℕ → ℕ
@@ -30,4 +31,4 @@ codeNumber mask start t source block = andThen (lentNumber mask start t source b
 
 -- "or 8, 9"
 unfoldable pub readNumber : ℕ → ℕ → List ℕ → List ℕ → List ℕ → ℕ
-readNumber mask start t block source = andThen (lentNumber mask start t source block) (receivedNumber t mask start block)
+readNumber mask start t block source = andThen (lentNumber mask start t source block) (wordNumber blockShape t mask start block)

@@ -4,9 +4,5 @@ pub mod Reading
 pub mod ReadingLaws
 pub mod Calls
 pub mod CallLaws
-pub mod TailLaws
 pub mod RoundTrips
 pub mod DemandThree
-pub mod Needs
-pub mod Stages
-pub mod StageLaws

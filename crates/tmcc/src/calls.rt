@@ -1,22 +1,20 @@
 // What both calls test: settings, lengths, table.
 ghost use mathlib.Core.Path.{_≡_};
 ghost use Rattle.tmcc.specs.Calls.{lentNumber};
-use crate::BLOCK_OCTETS;
 use crate::ROWS;
 use crate::SOURCE_OCTETS;
-use crate::WIDTH;
 
 // The refusal of the settings, of a lent area's length or of the parity table, or 0.
 pub fn lent_number(mask: u32, start: u32, table: &[u16], source: &[u8], block: &[u8]) -> u8
     ensures { λ r. ⌜ r ≡ lentNumber mask start (now (table .entry)) (now (source .entry)) (now (block .entry)) ⌝ }
 {
-    if !dispersal::settings_ok(WIDTH, mask, start) {
+    if !dispersal::settings_ok(plan::BLOCK_WIDTH, mask, start) {
         return refusal::REGISTER;
     }
     if source.len() != SOURCE_OCTETS {
         return refusal::LENGTH;
     }
-    if block.len() != BLOCK_OCTETS {
+    if block.len() != plan::BLOCK_OCTETS {
         return refusal::LENGTH;
     }
     if ldpc::table_ok(ROWS, table) {
