@@ -1,71 +1,78 @@
--- `files::value`: what the digits passed make, in four bits for each at most.
+-- `plan_text::value`: what the digits passed make, in at most 40 bits.
 use mathlib.Core.Path.{_≡_, sym, ap, ap₂, _∙_}
 use mathlib.Core.List.{List}
 use Prim.Native.Nat.{ℕ, _+_, _-_, _*_, _≤_, _<_}
 use native.Mathlib.Nat.{mul-le-mul-left}
 use native.Mathlib.Omega.{arith}
 use borrow.Author.Needs.{needs}
-use borrow.Author.Tests.{ltb-true}
-use lib.ListN.{length, getD}
-use lib.Pow.{pow-mono}
-use Rattle.lists.specs.CountLaws.{every-at}
-use Rattle.files.specs.Needs.{Digits}
-use Rattle.files.specs.Texts.{digitOf, isDigit, valueTo}
-use Rattle.files.specs.TextLaws.{value-none, value-more, value-lt}
-use Rattle.files.proofs.numbers.value.Statement.{statement}
-use Rattle.files.proofs.numbers.value.Tie as tie
+use lib.ListN.{getD}
+use Rattle.plan_text.specs.Needs.{Digits}
+use Rattle.plan_text.specs.Numerals.{digitOf, valueOf}
+use Rattle.plan_text.specs.NumeralLaws.{value-none, value-more, value-small}
+use Rattle.plan_text.proofs.numerals.value.Statement.{statement}
+use Rattle.plan_text.proofs.numerals.value.Tie as tie
 
-record Inv (base : ℕ) (text : List ℕ) (made i : ℕ) : Type 0 where
-  within : i ≤ length text
-  made-is : made ≡ valueTo base text i
+record Inv (base : ℕ) (text : List ℕ) (at count made k : ℕ) : Type 0 where
+  within : k ≤ count
+  made-is : made ≡ valueOf base text at k
 
 abbrev Inv-loop : tie.InvT-loop
-Inv-loop base text made₀ i₀ made i = Inv base text made i
+Inv-loop base text at count made₀ k₀ made k = Inv base text at count made k
 
 abbrev μ-loop : tie.MeasureT-loop
-μ-loop base text made₀ i₀ made i = length text - i
+μ-loop base text at count made₀ k₀ made k = count - k
 
 loop-holds : tie.Need-loop-holds Inv-loop μ-loop
-loop-holds c = record { within = omega arith; made-is = sym (value-none _ _) }
+loop-holds c = record { within = omega arith; made-is = sym (value-none _ _ _) }
 
--- each octet is a digit
-digit-lt : (base : ℕ) (text : List ℕ) → Digits base text → (k : ℕ) → k < length text → digitOf (getD text k 0) < base
-digit-lt base text d k h = ltb-true (digitOf (getD text k 0)) base (every-at (length text) (isDigit base text) (d .right) k h)
+-- the number with one digit more is small too
+small : (base : ℕ) (text : List ℕ) (at count k : ℕ) → Digits base text at count → k < count
+    → valueOf base text at k * base + digitOf (getD text (at + k) 0) < 1099511627776
+small base text at count k d h =
+    omega (arith, value-more base text at k, value-small base text at (k + 1) (d .small) (omega (arith, d .few)) (λ j l. d .right j (omega arith)))
 
--- before the last digit there are at most 36 bits
-small : (base : ℕ) (text : List ℕ) (i : ℕ) → Digits base text → i < length text → valueTo base text i < 68719476736
-small base text i d h =
-    omega (arith, value-lt base text i (d .small) (λ k l. digit-lt base text d k (omega arith)), pow-mono {i = 4 * i} {j = 36} (omega (arith, d .few)))
-
-mul-made : tie.Need-mul-made Inv-loop μ-loop
-mul-made c =
+next : (c : tie.In-loop Inv-loop μ-loop)
+    → let l = c .before .loop in
+    let a = c .before .before .before .args in
+    l .made * a .base + digitOf (getD (a .text .now) (a .at + l .k) 0) < 1099511627776
+next c =
     let l = c .before .loop in
     let s = c .before .before .before in
-    omega (arith, l .inv .made-is, small (s .args .base) (s .args .text .now) (l .i) (s .pre) (search needs), mul-le-mul-left (l .made) (s .pre .small))
+    rw (l .inv .made-is) (small (s .args .base) (s .args .text .now) (s .args .at) (s .args .count) (l .k) (s .pre) (c .loop-test .taken))
+
+-- the digit that the turn reads
+read : (c : tie.After-digit Inv-loop μ-loop)
+    → let b = c .before .before in
+    c .digit .result ≡ digitOf (getD (b .before .before .before .args .text .now) (b .before .before .before .args .at + b .before .loop .k) 0)
+read c = c .digit .ensures ∙ ap digitOf (c .before .octet-at .ensures)
+
+mul-made : tie.Need-mul-made Inv-loop μ-loop
+mul-made c = omega (arith, next c)
+
+add-octet-at : tie.Need-add-octet-at Inv-loop μ-loop
+add-octet-at c =
+    let s = c .before .before .before in
+    omega (arith, s .pre .near, s .pre .few, c .loop-test .taken)
 
 add-made : tie.Need-add-made Inv-loop μ-loop
-add-made c =
-    let b = c .before .before in
-    let l = b .before .loop in
-    let s = b .before .before .before in
-    omega (arith, l .inv .made-is, small (s .args .base) (s .args .text .now) (l .i) (s .pre) (search needs), mul-le-mul-left (l .made) (s .pre .small), c .digit .ensures, digit-lt (s .args .base) (s .args .text .now) (s .pre) (l .i) (search needs), s .pre .small)
+add-made c = omega (arith, next (c .before .before), read c)
 
 loop-again : tie.Need-loop-again Inv-loop μ-loop
 loop-again c =
     let b = c .before .before in
     let l = b .before .loop in
-    let s = b .before .before .before in
+    let a = b .before .before .before .args in
     record {
       within = search needs;
-      made-is = ap₂ (λ (x y : ℕ). x * s .args .base + y) (l .inv .made-is) (c .digit .ensures) ∙ sym (value-more (s .args .base) (s .args .text .now) (l .i));
+      made-is = ap₂ (λ (x y : ℕ). x * a .base + y) (l .inv .made-is) (read c) ∙ sym (value-more (a .base) (a .text .now) (a .at) (l .k));
     }
 
 returns : tie.Need-returns Inv-loop μ-loop
 returns c =
     let l = c .before .loop in
     let a = c .before .before .before .args in
-    let e : l .i ≡ length (a .text .now) = omega (arith, l .inv .within) in
-    l .inv .made-is ∙ ap (valueTo (a .base) (a .text .now)) e
+    let e : l .k ≡ a .count = omega (arith, l .inv .within) in
+    l .inv .made-is ∙ ap (valueOf (a .base) (a .text .now) (a .at)) e
 
 pub value-spec : {M : Type 1} → statement M
 value-spec =
@@ -75,7 +82,8 @@ value-spec =
     μ-loop
     loop-holds
     mul-made
-    (λ c. search needs)
+    add-octet-at
+    (λ c κs. search needs)
     (λ c κs. search needs)
     add-made
     (λ c. search needs)
