@@ -16,10 +16,10 @@ fn of_32apsk(name: &[u8], rate: u16, slot: &[u8]) {
 }
 
 pub fn run() {
-    let mut slot = [0u8; 5610];
+    let mut slot = [0u8; plan::SLOT_OCTETS];
     of_8psk(b"label 8 in 8PSK ", 8, &mut slot);
     of_8psk(b"label 7 in 8PSK ", 7, &mut slot);
-    let mut first = [0u8; 5610];
+    let mut first = [0u8; plan::SLOT_OCTETS];
     first[0] = 128;
     of_32apsk(b"bit 0 in 32APSK at rate 7 gives label ", 7, &first);
     of_32apsk(b"bit 0 in 32APSK at rate 8 gives label ", 8, &first);

@@ -6,12 +6,12 @@ use samples::START;
 
 // 16APSK 7/9 and QPSK 1/2 in so many slots, of which the first groups are in use.
 pub fn of_counts(count: u16, first: u16, second: u16) -> Plan {
-    Plan {
+    plan::of_columns(
         count,
-        modulation: [4, 2, 0, 0, 0, 0, 0, 0],
-        rate: [7, 3, 0, 0, 0, 0, 0, 0],
-        slots: [first, second, 0, 0, 0, 0, 0, 0],
-    }
+        [4, 2, 0, 0, 0, 0, 0, 0],
+        [7, 3, 0, 0, 0, 0, 0, 0],
+        [first, second, 0, 0, 0, 0, 0, 0],
+    )
 }
 
 fn opening(name: &[u8], plan: Plan, mask: u32) {

@@ -57,7 +57,7 @@ fn read_back(table: &[u16], source: &[u8], first: &[u8], second: &[u8], found: &
 }
 
 // A slot that was damaged leaves the state where a good one does.
-fn read_damaged(table: &[u16], first: [u8; 5610], second: &[u8], found: &mut [u8]) {
+fn read_damaged(table: &[u16], first: [u8; plan::SLOT_OCTETS], second: &[u8], found: &mut [u8]) {
     let mut damaged = first;
     damaged[0] = std::num::wrapping_add_u8(damaged[0], 128);
     let next = read(
@@ -71,8 +71,8 @@ fn read_damaged(table: &[u16], first: [u8; 5610], second: &[u8], found: &mut [u8
 }
 
 fn slot_lines(table: &[u16], source: &[u8], found: &mut [u8]) {
-    let mut first = [0u8; 5610];
-    let mut second = [0u8; 5610];
+    let mut first = [0u8; plan::SLOT_OCTETS];
+    let mut second = [0u8; plan::SLOT_OCTETS];
     two_slots(table, source, &mut first, &mut second);
     read_back(table, source, &first, &second, found);
     read_damaged(table, first, &second, found);
@@ -84,7 +84,7 @@ pub fn run() {
     let mut found = [0u8; 3762];
     published::copy_table(5, &mut table);
     samples::fill(5, &mut source);
-    let mut coded = [0u8; 5610];
+    let mut coded = [0u8; plan::SLOT_OCTETS];
     of_address(b"address M ", 14586, table, &source, &mut coded);
     of_address(b"address M - 1 ", 14585, table, &source, &mut coded);
     slot_lines(&table, &source, &mut found);

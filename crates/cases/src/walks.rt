@@ -86,7 +86,7 @@ fn put_tables(tables: &mut [u16])
 
 // The areas come as arrays and become slices here and not where they are made, which is slow to prove.
 fn whole(
-    coded: &[u8; 5610],
+    coded: &[u8; plan::SLOT_OCTETS],
     tables: &mut [u16; 827],
     sources: &[u8; 403370],
     frame: &mut [u8; 673200],
@@ -97,7 +97,7 @@ fn whole(
 
 // Slot 116 by the calls on slots, and by the call on the whole frame.
 fn through_dummies() {
-    let mut coded = [0u8; 5610];
+    let mut coded = [0u8; plan::SLOT_OCTETS];
     let mut of_7 = [0u16; 471];
     let mut of_3 = [0u16; 356];
     published::copy_table(7, &mut of_7);
@@ -113,7 +113,7 @@ fn through_dummies() {
 // A frame without dummies is full behind slot 120.
 pub fn run() {
     through_dummies();
-    let mut coded = [0u8; 5610];
+    let mut coded = [0u8; plan::SLOT_OCTETS];
     let mut table = [0u16; 278];
     published::copy_table(1, &mut table);
     to_full(&table, &[0u8; 1892], &mut coded);

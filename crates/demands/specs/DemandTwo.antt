@@ -30,7 +30,8 @@ use Rattle.frame.specs.StepLaws.{coded-data, coded-dummy, answer-data, answer-d
 use Rattle.frame.specs.Frames.{frameOctets, rowsOfSlot, registerBefore, stateBefore, slotIn, octetsOfSlot, sourceFrom, sourceIn, frameOf, answersOf, sourcesOf, frameNumber, readFrameNumber}
 use Rattle.frame.specs.FrameLaws.{At, at, sourceFrom-none, sourceFrom-more, data-long, length-slotIn, length-frameOf, length-sourcesOf, slot-at, answer-at, source-at}
 use Rattle.frame.specs.CallLaws.{Lent, frame-lent, frame-yes, read-lent, read-yes}
-use Rattle.frame.specs.SlotBySlot.{codedTo, readTo, coded-to, read-to, taken, code-answer, code-area, read-answer, read-area, pass-answer}
+use Rattle.frame.specs.Walks.{codedTo, readTo}
+use Rattle.frame.specs.SlotBySlot.{coded-to, read-to, taken, code-answer, code-area, read-answer, read-area, pass-answer}
 use Rattle.demands.specs.Statements.{SlotCodedThenRead, SlotReadThenCoded, FrameBack, FrameCodedThenRead, FrameAgain, FrameReadThenCoded, CodedBySlots, FrameCodedBySlots, ReadBySlots, FrameReadBySlots, BlockCodedThenRead, BlockReadThenCoded, SlotLabelsBack, LabelsSlotBack, BlockLabelsBack, LabelsBlockBack}
 
 pub slot-coded-then-read : SlotCodedThenRead

@@ -40,7 +40,7 @@ use Rattle.tmcc.specs.DemandThree.{bchSent, EvenTimes}
 use Rattle.frame.specs.Tables.{tableOf}
 use Rattle.frame.specs.Steps.{tableAt}
 use Rattle.frame.specs.Frames.{rowsOfSlot, stateBefore, slotIn, sourceIn, frameOf, answersOf, sourcesOf, frameNumber, readFrameNumber}
-use Rattle.frame.specs.SlotBySlot.{codedTo, readTo}
+use Rattle.frame.specs.Walks.{codedTo, readTo}
 
 -- DEMAND 2, "Coding then reading returns header and data": a slot, at one state with one table
 abbrev pub SlotCodedThenRead : Type 0

@@ -1,64 +1,23 @@
 // A number as text: decimal digits, or hexadecimal ones behind 0x.
 ghost use mathlib.Core.Path.{_≡_};
-ghost use mathlib.Core.Bool.{_&&_};
-ghost use lib.Dec.{leb};
 ghost use lib.ListN.{length};
 ghost use Rattle.lists.specs.Count.{every};
-ghost use Rattle.files.specs.Texts.{digitOf, isDigit, valueTo, nothing, said, numberIn, hexadecimal, numberText};
-ghost use Rattle.files.specs.Needs.{Digits, Base};
+ghost use Rattle.files.specs.Texts.{digitAt, nothing, said, numberIn, hexadecimal, numberText};
+ghost use Rattle.files.specs.Needs.{Base};
 use crate::Said;
-
-fn within(x: u8, low: u8, high: u8) -> bool
-    ensures { λ r. ⌜ r ≡ (leb low x && leb x high) ⌝ }
-{
-    if x < low {
-        return false;
-    }
-    x <= high
-}
-
-// The value of a digit, or 16 where the octet is none.
-fn digit(octet: u8) -> u64
-    ensures { λ r. ⌜ r ≡ digitOf octet ⌝ }
-{
-    if within(octet, b'0', b'9') {
-        return (octet - 48) as u64;
-    }
-    if within(octet, b'a', b'f') {
-        return (octet - 87) as u64;
-    }
-    if within(octet, b'A', b'F') {
-        return (octet - 55) as u64;
-    }
-    16
-}
 
 // Whether all octets are digits of the base.
 fn all_digits(base: u64, text: &[u8]) -> bool
-    ensures { λ r. ⌜ r ≡ every (length (now (text .entry))) (isDigit base (now (text .entry))) ⌝ }
+    ensures { λ r. ⌜ r ≡ every (length (now (text .entry))) (digitAt base (now (text .entry))) ⌝ }
 {
     let mut i: usize = 0;
     while i < text.len() {
-        if base <= digit(text[i]) {
+        if base <= plan_text::digit(text[i]) {
             return false;
         }
         i += 1;
     }
     true
-}
-
-// The number that digits make.
-fn value(base: u64, text: &[u8]) -> u64
-    requires { ⌜ Digits base (now text) ⌝ }
-    ensures { λ r. ⌜ r ≡ valueTo base (now (text .entry)) (length (now (text .entry))) ⌝ }
-{
-    let mut made: u64 = 0;
-    let mut i: usize = 0;
-    while i < text.len() {
-        made = made * base + digit(text[i]);
-        i += 1;
-    }
-    made
 }
 
 fn none() -> Said
@@ -95,7 +54,7 @@ fn number_in(base: u64, most: usize, text: &[u8]) -> Said
         return none();
     }
     if all_digits(base, text) {
-        return fitted(value(base, text));
+        return fitted(plan_text::value(base, text, 0, text.len()));
     }
     none()
 }

@@ -3,10 +3,12 @@ use mathlib.Core.Path.{_≡_, refl, sym, ap, _∙_}
 use mathlib.Core.Bool.{Bool, true, _&&_}
 use mathlib.Core.List.{List}
 use Prim.Native.Nat.{ℕ}
+use native.Mathlib.Omega.{arith}
 use borrow.Author.Tests.{eqb-true, eq-eqb}
 use lib.Dec.{eqb}
 use Rattle.lists.specs.Choice.{pick, andThen}
-use Rattle.lists.specs.ChoiceLaws.{and-left, and-right, then-zero, pick-yes}
+use Rattle.lists.specs.ChoiceLaws.{and-left, and-right, then-zero, not-refused}
+use Rattle.refusal.specs.Numbers.{LENGTH, TABLE}
 use Rattle.plan.specs.declared.Plan.{Plan}
 use Rattle.plan.specs.States.{openNumber}
 use Rattle.frame.specs.Tables.{tablesOk}
@@ -20,11 +22,11 @@ pub record Lent (p : Plan) (mask start : ℕ) (ts : List ℕ) (source frame : �
   pub tables : tablesOk p ts ≡ true
 
 -- the tests of a whole-frame call, over the one of its lengths
-tested : (o : ℕ) (l t : Bool) → andThen o (andThen (pick l 0 4) (pick t 0 5)) ≡ 0 → (o ≡ 0) × (l ≡ true) × (t ≡ true)
+tested : (o : ℕ) (l t : Bool) → andThen o (andThen (pick l 0 LENGTH) (pick t 0 TABLE)) ≡ 0 → (o ≡ 0) × (l ≡ true) × (t ≡ true)
 tested o l t h =
     let a = then-zero o _ h in
-    let b = then-zero (pick l 0 4) _ (a .1) in
-    (a .0, pick-yes l 0 3 (b .0) .0, pick-yes t 0 4 (b .1) .0)
+    let b = then-zero (pick l 0 LENGTH) _ (a .1) in
+    (a .0, not-refused l LENGTH (omega arith) (b .0), not-refused t TABLE (omega arith) (b .1))
 
 module _ (p : Plan) (mask start : ℕ) (ts : List ℕ) (source frame : ℕ) where
   pub frame-lent : frameNumber p mask start ts source frame ≡ 0 → Lent p mask start ts source frame

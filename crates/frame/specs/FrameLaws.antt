@@ -15,14 +15,15 @@ use Rattle.dispersal.specs.Register.{registerOk}
 use Rattle.dispersal.specs.RegisterLaws.{after-ok}
 use Rattle.ldpc.specs.Tables.{tableOk}
 use Rattle.plan.specs.declared.Plan.{Plan}
+use Rattle.plan.specs.Sizes.{slotWidth, slotOctets}
 use Rattle.plan.specs.RateLaws.{Rows, rows-most}
 use Rattle.plan.specs.Plans.{rateOf}
 use Rattle.plan.specs.PlanLaws.{accepted}
 use Rattle.plan.specs.Places.{groupAt, carries}
 use Rattle.plan.specs.PlaceLaws.{group-holds}
-use Rattle.plan.specs.States.{slotWidth, openNumber, opened}
+use Rattle.plan.specs.States.{openNumber, opened}
 use Rattle.plan.specs.StateLaws.{Ready, open-sound}
-use Rattle.slot.specs.Slots.{slotOctets, messageBits, sourceOctets, registerAfter, coveredBits}
+use Rattle.slot.specs.Slots.{messageBits, sourceOctets, registerAfter, coveredBits}
 use Rattle.slot.specs.Calls.{rowsAt}
 use Rattle.slot.specs.CallLaws.{rows-known}
 use Rattle.frame.specs.Tables.{tablesOk}

@@ -11,11 +11,13 @@ use Rattle.lists.specs.Parts.{part}
 use Rattle.refusal.specs.Numbers.{LENGTH, TABLE}
 use Rattle.plan.specs.declared.Plan.{Plan}
 use Rattle.plan.specs.declared.FrameState.{FrameState}
+use Rattle.plan.specs.Sizes.{slotOctets}
+use Rattle.plan.specs.Records.{stateAt}
 use Rattle.plan.specs.Rates.{rowsOf}
 use Rattle.plan.specs.Plans.{rateOf}
 use Rattle.plan.specs.Places.{groupAt, carries}
 use Rattle.plan.specs.States.{openNumber}
-use Rattle.slot.specs.Slots.{slotOctets, sourceOctets, registerAfter}
+use Rattle.slot.specs.Slots.{sourceOctets, registerAfter}
 use Rattle.frame.specs.Tables.{tablesOk}
 use Rattle.frame.specs.Steps.{codedAt, answerAt, readAt}
 
@@ -35,8 +37,7 @@ registerBefore p mask start (suc k) =
 
 -- the state before slot k + 1: "It starts from plan and settings at slot 1"
 abbrev pub stateBefore : Plan → ℕ → ℕ → ℕ → FrameState
-stateBefore p mask start k =
-    record { count = p .count; modulation = p .modulation; rate = p .rate; slots = p .slots; mask = mask; start = start; slot = k + 1; register = registerBefore p mask start k }
+stateBefore p mask start k = stateAt p mask start (k + 1) (registerBefore p mask start k)
 
 -- "slot s in its own part starting at octet 5,610 × (s − 1)"
 abbrev pub slotIn : List ℕ → ℕ → List ℕ

@@ -5,6 +5,7 @@ pub mod StepLaws
 pub mod Frames
 pub mod FrameLaws
 pub mod CallLaws
+pub mod Walks
 pub mod SlotBySlot
 pub mod Needs
 pub mod PlacedLaws

@@ -1,4 +1,4 @@
--- A whole frame and the calls on its slots one by one, from opening, dummies passed: "equals the slot-by-slot calls" (document
+-- Laws of a whole frame and the calls on its slots one by one, from opening, dummies passed: "equals the slot-by-slot calls" (document
 -- 01, "Plan and place").
 use mathlib.Core.Path.{_≡_, refl, sym, ap, _∙_}
 use mathlib.Core.Bool.{Bool, true, false}
@@ -13,10 +13,11 @@ use Rattle.lists.specs.Choice.{pick}
 use Rattle.lists.specs.ChoiceLaws.{then-next}
 use Rattle.plan.specs.declared.Plan.{Plan}
 use Rattle.plan.specs.declared.FrameState.{FrameState}
+use Rattle.plan.specs.Sizes.{slotOctets}
 use Rattle.plan.specs.Places.{carries}
 use Rattle.plan.specs.States.{planIn, opened, passNumber, passed}
 use Rattle.plan.specs.StateLaws.{Ready, pass-yes}
-use Rattle.slot.specs.Slots.{slotOctets, sourceOctets, slotOf}
+use Rattle.slot.specs.Slots.{sourceOctets, slotOf}
 use Rattle.slot.specs.Reading.{receivedNumber, sourceOf}
 use Rattle.slot.specs.Calls.{rowsAt, slotNumber, codeAnswer, codeArea, readNumber, readAnswer, readArea}
 use Rattle.slot.specs.CallLaws.{slot-yes}
@@ -26,6 +27,7 @@ use Rattle.frame.specs.StepLaws.{coded-data, answer-data, after-data, af
 use Rattle.frame.specs.Frames.{frameOctets, rowsOfSlot, registerBefore, stateBefore, slotIn, sourceFrom, sourceIn}
 use Rattle.frame.specs.FrameLaws.{at, first-state, state-more, state-ready, data-long, length-slotIn}
 use Rattle.frame.specs.CallLaws.{Lent}
+use Rattle.frame.specs.Walks.{codedTo, readTo}
 
 -- a slot call at a state that is ready, with the group's table and areas of the right lengths
 module _ (s : FrameState) (ts source coded : List ℕ) (n : slotNumber s (tableAt s ts) source coded ≡ 0) (c : carries (planIn s) (s .slot) ≡ true) where
@@ -55,22 +57,6 @@ unfolding passed
 pass-answer s ts r c = (pass-yes s r c, rw (eq-eqb (passNumber s) 0 (pass-yes s r c)) (sym (after-dummy s ts c)))
 
 module _ (p : Plan) (mask start : ℕ) (ts source frame : List ℕ) where
-  -- the state after the first k slots were coded or passed one by one
-  unfoldable pub codedTo : ℕ → FrameState
-  codedTo zero = opened p mask start .state
-  codedTo (suc k) =
-      pick (carries (planIn (codedTo k)) (codedTo k .slot))
-      (codeAnswer (codedTo k) (tableAt (codedTo k) ts) (sourceIn p source k) (slotIn frame k) .state)
-      (passed (codedTo k) .state)
-
-  -- and after they were read or passed one by one
-  unfoldable pub readTo : ℕ → FrameState
-  readTo zero = opened p mask start .state
-  readTo (suc k) =
-      pick (carries (planIn (readTo k)) (readTo k .slot))
-      (readAnswer (readTo k) (tableAt (readTo k) ts) (slotIn frame k) (sourceIn p source k) .state)
-      (passed (readTo k) .state)
-
   module _ (l : Lent p mask start ts (length source) (length frame)) where
     -- at a data slot the slot call is refused for nothing
     pub taken : (k : ℕ) → k < 120 → carries p (k + 1) ≡ true → slotNumber (stateBefore p mask start k) (tableAt (stateBefore p mask start k) ts) (sourceIn p source k) (slotIn frame k) ≡ 0
@@ -98,12 +84,12 @@ module _ (p : Plan) (mask start : ℕ) (ts source frame : List ℕ) where
     read-next k h false c = pass-answer (stateBefore p mask start k) ts (state-ready p mask start (l .opened) k h) c .1 ∙ state-more p mask start k
 
     -- the states on the way are the frame's
-    pub coded-to : (k : ℕ) → k ≤ 120 → codedTo k ≡ stateBefore p mask start k
+    pub coded-to : (k : ℕ) → k ≤ 120 → codedTo p mask start ts source frame k ≡ stateBefore p mask start k
     unfolding codedTo
     coded-to zero h = first-state p mask start (l .opened)
     coded-to (suc k) h = rw (coded-to k (omega arith), ← add-one k) (coded-next k h (carries p (k + 1)) refl)
 
-    pub read-to : (k : ℕ) → k ≤ 120 → readTo k ≡ stateBefore p mask start k
+    pub read-to : (k : ℕ) → k ≤ 120 → readTo p mask start ts source frame k ≡ stateBefore p mask start k
     unfolding readTo
     read-to zero h = first-state p mask start (l .opened)
     read-to (suc k) h = rw (read-to k (omega arith), ← add-one k) (read-next k h (carries p (k + 1)) refl)

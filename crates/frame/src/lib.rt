@@ -8,7 +8,7 @@ pub use calls::frame_number;
 pub use sources::slot_octets;
 
 // The slots of a frame.
-const SLOTS: usize = 120;
+pub const SLOTS: usize = 120;
 
 // A whole frame, 5,610 octets for each slot.
 const FRAME_OCTETS: usize = 673200;

@@ -9,10 +9,6 @@ ghost use Rattle.frame_coder.specs.Needs.{Coding};
 use plan::FrameState;
 use plan::Plan;
 
-const SLOTS: usize = 120;
-
-const SLOT_OCTETS: usize = 5610;
-
 // Codes the state's next slot, or passes it where it is a dummy; the state after it.
 fn code_place(
     state: FrameState,
@@ -54,10 +50,10 @@ fn code_slots(
     let mut state = opened.state;
     let mut from: usize = 0;
     let mut k: usize = 0;
-    while k < SLOTS {
+    while k < frame::SLOTS {
         let next = k + 1;
-        let at = SLOT_OCTETS * k;
-        let end = SLOT_OCTETS * next;
+        let at = plan::SLOT_OCTETS * k;
+        let end = plan::SLOT_OCTETS * next;
         let to = from + frame::slot_octets(plan, next);
         state = code_place(state, tables, ends, &source[from..to], &mut frame[at..end]);
         from = to;
@@ -85,7 +81,7 @@ pub fn code_frame(
         tables,
         source.len(),
         frame.len(),
-        SLOTS,
+        frame::SLOTS,
         &mut ends,
     );
     if number != 0 {

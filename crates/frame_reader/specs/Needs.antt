@@ -5,7 +5,7 @@ use lib.ListN.{length}
 use Prim.Native.Nat.{ℕ}
 use Rattle.plan.specs.declared.Plan.{Plan}
 use Rattle.plan.specs.declared.FrameState.{FrameState}
-use Rattle.slot.specs.Slots.{slotOctets}
+use Rattle.plan.specs.Sizes.{slotOctets}
 use Rattle.frame.specs.Needs.{Placed, Framed}
 
 -- a slot's place, with its 5,610 octets as received

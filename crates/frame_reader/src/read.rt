@@ -10,10 +10,6 @@ use plan::Answer;
 use plan::FrameState;
 use plan::Plan;
 
-const SLOTS: usize = 120;
-
-const SLOT_OCTETS: usize = 5610;
-
 // Reads the state's next slot, or passes it where it is a dummy: its answer and the state after it.
 fn read_place(
     state: FrameState,
@@ -60,10 +56,10 @@ fn read_slots(
     let mut state = opened.state;
     let mut from: usize = 0;
     let mut k: usize = 0;
-    while k < SLOTS {
+    while k < frame::SLOTS {
         let next = k + 1;
-        let at = SLOT_OCTETS * k;
-        let end = SLOT_OCTETS * next;
+        let at = plan::SLOT_OCTETS * k;
+        let end = plan::SLOT_OCTETS * next;
         let to = from + frame::slot_octets(plan, next);
         let answer = read_place(state, tables, ends, &frame[at..end], &mut source[from..to]);
         answers[k] = answer.number;

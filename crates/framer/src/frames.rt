@@ -125,7 +125,7 @@ fn finished(
     files: Files,
     table: &mut [u16; 510],
     packets: &mut [u8; 5076],
-    coded: &mut [u8; 5610],
+    coded: &mut [u8; plan::SLOT_OCTETS],
 ) -> Tally {
     let tally = code_frames(opened, files, table, packets, coded);
     if !tally.ok {
@@ -142,6 +142,6 @@ fn finished(
 pub fn code_all(opened: FrameState, files: Files) -> Tally {
     let mut table = [0u16; 510];
     let mut packets = [0u8; 5076];
-    let mut coded = [0u8; 5610];
+    let mut coded = [0u8; plan::SLOT_OCTETS];
     finished(opened, files, &mut table, &mut packets, &mut coded)
 }

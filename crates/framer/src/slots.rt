@@ -181,7 +181,7 @@ fn fill_slot(
 }
 
 fn zeros_written(files: Files) -> bool {
-    let zeros = [0u8; 5610];
+    let zeros = [0u8; plan::SLOT_OCTETS];
     written(files, &zeros)
 }
 

@@ -114,7 +114,7 @@ fn read_frame(
     number: u64,
     table: &mut [u16],
     packets: &mut [u8],
-    coded: &mut [u8; 5610],
+    coded: &mut [u8; plan::SLOT_OCTETS],
 ) -> Tally
     requires { ⌜ Areas (now table) (now packets) ⌝ }
 {
@@ -142,7 +142,7 @@ fn read_frames(
     files: Files,
     table: &mut [u16],
     packets: &mut [u8],
-    coded: &mut [u8; 5610],
+    coded: &mut [u8; plan::SLOT_OCTETS],
 ) -> Tally
     requires { ⌜ Areas (now table) (now packets) ⌝ }
 {
@@ -169,7 +169,7 @@ fn finished(
     files: Files,
     table: &mut [u16; 510],
     packets: &mut [u8; 5076],
-    coded: &mut [u8; 5610],
+    coded: &mut [u8; plan::SLOT_OCTETS],
 ) -> Tally {
     let total = read_frames(opened, files, table, packets, coded);
     if !total.ok {
@@ -186,6 +186,6 @@ fn finished(
 pub fn read_all(opened: FrameState, files: Files) -> Tally {
     let mut table = [0u16; 510];
     let mut packets = [0u8; 5076];
-    let mut coded = [0u8; 5610];
+    let mut coded = [0u8; plan::SLOT_OCTETS];
     finished(opened, files, &mut table, &mut packets, &mut coded)
 }

@@ -119,7 +119,7 @@ pub fn next_slot(
     files: Files,
     table: &mut [u16],
     packets: &mut [u8],
-    coded: &mut [u8; 5610],
+    coded: &mut [u8; plan::SLOT_OCTETS],
 ) -> Step
     requires { ⌜ Areas (now table) (now packets) ⌝ }
 {
@@ -133,7 +133,7 @@ pub fn next_slot(
             return none(state, true);
         }
     }
-    if got.octets != 5610 {
+    if got.octets != plan::SLOT_OCTETS {
         files::note(FRAMES, b"ends inside a frame");
         return none(state, false);
     }

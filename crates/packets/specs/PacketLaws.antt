@@ -10,7 +10,8 @@ use lib.Dec.{eqb}
 use lib.ListN.{length, getD, take, drop}
 use lib.Seq.{drop-cons, drop-drop, getD-drop, getD-take}
 use Rattle.lists.specs.Choice.{pick}
-use Rattle.lists.specs.ChoiceLaws.{and-left, and-right, then-zero, then-both, pick-yes}
+use Rattle.lists.specs.ChoiceLaws.{and-left, and-right, then-zero, then-both, not-refused}
+use Rattle.refusal.specs.Numbers.{PLAN, LENGTH, SYNC}
 use Rattle.lists.specs.Count.{every}
 use Rattle.lists.specs.CountLaws.{every-at, every-all, joined-none, joined-more, joined-same}
 use Rattle.lists.specs.Parts.{part}
@@ -124,9 +125,9 @@ pub record Sized (rate xs ys : ℕ) : Type 0 where
 pub sized : (rate packets octets : ℕ) → sizeNumber rate packets octets ≡ 0 → Sized rate packets octets
 unfolding sizeNumber
 sized rate packets octets h =
-    let a = then-zero (pick (rateOk rate) 0 1) _ h in
-    let r = pick-yes (rateOk rate) 0 0 (a .0) .0 in
-    let t = pick-yes (eqb packets (188 * packetsOf rate) && eqb octets (dataOctetsOf rate)) 0 3 (a .1) .0 in
+    let a = then-zero (pick (rateOk rate) 0 PLAN) _ h in
+    let r = not-refused (rateOk rate) PLAN (omega arith) (a .0) in
+    let t = not-refused (eqb packets (188 * packetsOf rate) && eqb octets (dataOctetsOf rate)) LENGTH (omega arith) (a .1) in
     record {
       known = r;
       packets = eqb-true packets (188 * packetsOf rate) (and-left (eqb packets (188 * packetsOf rate)) _ t);
@@ -148,7 +149,7 @@ pub pack-ready : (rate : ℕ) (packets : List ℕ) (room : ℕ) → packNumber r
 unfolding packNumber
 pack-ready rate packets room h =
     let a = then-zero (sizeNumber rate (length packets) room) _ h in
-    record { sized = sized rate (length packets) room (a .0); syncs = pick-yes (every (packetsOf rate) (beginsSync packets)) 0 6 (a .1) .0 }
+    record { sized = sized rate (length packets) room (a .0); syncs = not-refused (every (packetsOf rate) (beginsSync packets)) SYNC (omega arith) (a .1) }
 
 pub pack-ready-yes : (rate : ℕ) (packets : List ℕ) (room : ℕ) → PackReady rate packets room → packNumber rate packets room ≡ 0
 unfolding packNumber

@@ -1,5 +1,6 @@
 pub mod Needs
 pub mod Sizes
+pub mod Records
 pub mod Rates
 pub mod RateLaws
 pub mod Plans

@@ -12,9 +12,10 @@ use Rattle.dispersal.specs.Register.{maskOk, registerOk, settingsOk}
 use Rattle.plan.specs.declared.Plan.{Plan}
 use Rattle.plan.specs.declared.FrameState.{FrameState}
 use Rattle.plan.specs.Sizes.{slotWidth}
+use Rattle.plan.specs.Records.{planIn}
 use Rattle.plan.specs.Plans.{planNumber}
 use Rattle.plan.specs.Places.{carries}
-use Rattle.plan.specs.States.{planIn, begun, movedOn, openNumber, opened, soundNumber, stateNumber, passNumber, passed}
+use Rattle.plan.specs.States.{begun, movedOn, openNumber, opened, soundNumber, stateNumber, passNumber, passed}
 
 -- a state that is refused neither for its plan nor for its register
 pub record Sound (s : FrameState) : Type 0 where

@@ -2,7 +2,6 @@
 use mathlib.Core.Bool.{Bool, _&&_}
 use Prim.Native.Nat.{ℕ, _+_}
 use lib.Dec.{eqb, leb}
-use lib.ListN.{replicate}
 use Rattle.lists.specs.Choice.{pick, andThen}
 use Rattle.refusal.specs.Numbers.{PLAN, DUMMY, FULL, REGISTER}
 use Rattle.dispersal.specs.Register.{registerOk, settingsOk}
@@ -10,27 +9,22 @@ use Rattle.plan.specs.declared.Plan.{Plan}
 use Rattle.plan.specs.declared.FrameState.{FrameState}
 use Rattle.plan.specs.declared.Answer.{Answer}
 pub use Rattle.plan.specs.Sizes.{slotWidth}
+use Rattle.plan.specs.Records.{noPlan, stateAt}
+pub use Rattle.plan.specs.Records.{planIn}
 use Rattle.plan.specs.Plans.{planNumber}
 use Rattle.plan.specs.Places.{carries}
 
--- the plan that a state holds
-abbrev pub planIn : FrameState → Plan
-planIn s = record { count = s .count; modulation = s .modulation; rate = s .rate; slots = s .slots }
-
 -- "It begins at slot 1 with the register at its start"
 abbrev pub begun : Plan → ℕ → ℕ → FrameState
-begun p mask start =
-    record { count = p .count; modulation = p .modulation; rate = p .rate; slots = p .slots; mask = mask; start = start; slot = 1; register = start }
+begun p mask start = stateAt p mask start 1 start
 
 -- "the state of a refused opening is all zeros"
 abbrev pub zeros : FrameState
-zeros =
-    record { count = 0; modulation = replicate 8 0; rate = replicate 8 0; slots = replicate 8 0; mask = 0; start = 0; slot = 0; register = 0 }
+zeros = stateAt noPlan 0 0 0 0
 
 -- "moves on by one", with register r
 abbrev pub movedOn : FrameState → ℕ → FrameState
-movedOn s r =
-    record { count = s .count; modulation = s .modulation; rate = s .rate; slots = s .slots; mask = s .mask; start = s .start; slot = s .slot + 1; register = r }
+movedOn s r = stateAt (planIn s) (s .mask) (s .start) (s .slot + 1) r
 
 -- the number with one state where it is 0, and another where it refuses
 abbrev pub answer : ℕ → FrameState → FrameState → Answer

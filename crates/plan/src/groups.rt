@@ -2,7 +2,7 @@
 ghost use mathlib.Core.Path.{_≡_};
 ghost use Prim.Native.Nat.{_+_, _-_, _≤_, _<_};
 ghost use Rattle.lists.specs.Count.{every};
-ghost use Rattle.plan.specs.Plans.{valuesOk, fallsAfter, slotsBefore, planNumber};
+ghost use Rattle.plan.specs.Plans.{valuesOk, fallsAfter, slotsBefore, planNumber, dataSlotsOf};
 use crate::Plan;
 use crate::rates::known;
 
@@ -69,6 +69,14 @@ fn all_fall(plan: Plan) -> bool
         }
     }
     true
+}
+
+// The slots of group g that carry data.
+pub fn data_slots(plan: Plan, g: usize) -> usize
+    requires { ⌜ g < 8 ⌝ }
+    ensures { λ r. ⌜ r ≡ dataSlotsOf plan g ⌝ }
+{
+    lists::index(plan.slots[g]) * lists::index(plan.modulation[g]) / 5
 }
 
 // The slots of all groups.

@@ -1,9 +1,13 @@
 // Rates and modulations, the slot plan, the place of a slot, and the frame state: opening a frame, and passing a dummy.
+ghost use mathlib.Core.Path.{_≡_};
+ghost use Rattle.plan.specs.Records.{ofColumns, noPlan, stateAt, planIn};
+
 mod groups;
 mod places;
 mod rates;
 mod state;
 
+pub use groups::data_slots;
 pub use groups::plan_number;
 pub use places::place_of;
 pub use rates::data_octets;
@@ -16,7 +20,6 @@ pub use state::advanced;
 pub use state::next_place;
 pub use state::open;
 pub use state::pass;
-pub use state::plan_in;
 pub use state::state_number;
 
 // A slot: its bits, its octets, the width of its register, and the most parity bits that one has.
@@ -67,4 +70,53 @@ pub struct FrameState {
 pub struct Answer {
     pub number: u8,
     pub state: FrameState,
+}
+
+// A plan of count groups, from its columns.
+pub fn of_columns(count: u16, modulation: [u16; 8], rate: [u16; 8], slots: [u16; 8]) -> Plan
+    ensures { λ r. ⌜ r ≡ ofColumns count modulation rate slots ⌝ }
+{
+    Plan {
+        count,
+        modulation,
+        rate,
+        slots,
+    }
+}
+
+// The plan of no groups.
+pub fn no_plan() -> Plan
+    ensures { λ r. ⌜ r ≡ noPlan ⌝ }
+{
+    let none = [0u16; 8];
+    of_columns(0, none, none, none)
+}
+
+// The state of a plan and its settings at a slot, with a register.
+pub fn state_at(plan: Plan, mask: u32, start: u32, slot: u16, register: u32) -> FrameState
+    ensures { λ r. ⌜ r ≡ stateAt plan mask start slot register ⌝ }
+{
+    let modulation = plan.modulation;
+    let rate = plan.rate;
+    let slots = plan.slots;
+    FrameState {
+        count: plan.count,
+        modulation,
+        rate,
+        slots,
+        mask,
+        start,
+        slot,
+        register,
+    }
+}
+
+// The plan that a state holds.
+pub fn plan_in(state: FrameState) -> Plan
+    ensures { λ r. ⌜ r ≡ planIn state ⌝ }
+{
+    let modulation = state.modulation;
+    let rate = state.rate;
+    let slots = state.slots;
+    of_columns(state.count, modulation, rate, slots)
 }

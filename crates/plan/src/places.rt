@@ -4,6 +4,7 @@ ghost use Rattle.plan.specs.Needs.{SlotOf};
 ghost use Rattle.plan.specs.Places.{placeOf};
 use crate::Place;
 use crate::Plan;
+use crate::groups::data_slots;
 
 pub fn place_of(plan: Plan, slot: usize) -> Place
     requires { ⌜ SlotOf plan slot ⌝ }
@@ -17,11 +18,10 @@ pub fn place_of(plan: Plan, slot: usize) -> Place
         passed = end;
         end = passed + lists::index(plan.slots[g]);
     }
-    let modulation = plan.modulation[g];
-    let filled = (end - passed) * lists::index(modulation) / 5;
+    let filled = data_slots(plan, g);
     Place {
         group: g,
-        modulation,
+        modulation: plan.modulation[g],
         rate: plan.rate[g],
         carries: slot - 1 - passed < filled,
     }

@@ -2,14 +2,18 @@
 ghost use mathlib.Core.Path.{_≡_};
 ghost use Prim.Native.Nat.{_≤_};
 ghost use Rattle.plan.specs.Places.{placeOf};
-ghost use Rattle.plan.specs.States.{planIn, begun, zeros, movedOn, openNumber, opened, soundNumber, stateNumber, passNumber, passed};
+ghost use Rattle.plan.specs.Records.{planIn};
+ghost use Rattle.plan.specs.States.{movedOn, openNumber, opened, soundNumber, stateNumber, passNumber, passed};
 use crate::Answer;
 use crate::FrameState;
 use crate::Place;
 use crate::Plan;
 use crate::SLOT_WIDTH;
 use crate::groups::plan_number;
+use crate::no_plan;
 use crate::places::place_of;
+use crate::plan_in;
+use crate::state_at;
 
 fn open_number(plan: Plan, mask: u32, start: u32) -> u8
     ensures { λ r. ⌜ r ≡ openNumber plan mask start ⌝ }
@@ -24,66 +28,17 @@ fn open_number(plan: Plan, mask: u32, start: u32) -> u8
     refusal::REGISTER
 }
 
-fn no_state() -> FrameState
-    ensures { λ r. ⌜ r ≡ zeros ⌝ }
-{
-    let none = [0u16; 8];
-    FrameState {
-        count: 0,
-        modulation: none,
-        rate: none,
-        slots: none,
-        mask: 0,
-        start: 0,
-        slot: 0,
-        register: 0,
-    }
-}
-
-fn first_state(plan: Plan, mask: u32, start: u32) -> FrameState
-    ensures { λ r. ⌜ r ≡ begun plan mask start ⌝ }
-{
-    let modulation = plan.modulation;
-    let rate = plan.rate;
-    let slots = plan.slots;
-    FrameState {
-        count: plan.count,
-        modulation,
-        rate,
-        slots,
-        mask,
-        start,
-        slot: 1,
-        register: start,
-    }
-}
-
 // Opens a frame: the state at slot 1, or the refusal and a state of zeros.
 pub fn open(plan: Plan, mask: u32, start: u32) -> Answer
     ensures { λ r. ⌜ r ≡ opened plan mask start ⌝ }
 {
     let number = open_number(plan, mask, start);
     if number == 0 {
-        let state = first_state(plan, mask, start);
+        let state = state_at(plan, mask, start, 1, start);
         return Answer { number, state };
     }
-    let state = no_state();
+    let state = state_at(no_plan(), 0, 0, 0, 0);
     Answer { number, state }
-}
-
-// The plan that a state holds.
-pub fn plan_in(state: FrameState) -> Plan
-    ensures { λ r. ⌜ r ≡ planIn state ⌝ }
-{
-    let modulation = state.modulation;
-    let rate = state.rate;
-    let slots = state.slots;
-    Plan {
-        count: state.count,
-        modulation,
-        rate,
-        slots,
-    }
 }
 
 // The refusal of a state for its plan or its register, or 0.
@@ -125,10 +80,13 @@ pub fn advanced(state: FrameState, register: u32) -> FrameState
     requires { ⌜ state .slot ≤ 120 ⌝ }
     ensures { λ r. ⌜ r ≡ movedOn state register ⌝ }
 {
-    let mut next = state;
-    next.slot = state.slot + 1;
-    next.register = register;
-    next
+    state_at(
+        plan_in(state),
+        state.mask,
+        state.start,
+        state.slot + 1,
+        register,
+    )
 }
 
 // The place of a state's next slot.

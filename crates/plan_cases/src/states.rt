@@ -18,12 +18,12 @@ fn show(name: &[u8], answer: Answer) {
 
 // 16APSK 7/9 in 115 slots, of which 92 carry data, and QPSK 1/2 in 5, of which 2 do.
 fn example() -> Plan {
-    Plan {
-        count: 2,
-        modulation: [4, 2, 0, 0, 0, 0, 0, 0],
-        rate: [7, 3, 0, 0, 0, 0, 0, 0],
-        slots: [115, 5, 0, 0, 0, 0, 0, 0],
-    }
+    plan::of_columns(
+        2,
+        [4, 2, 0, 0, 0, 0, 0, 0],
+        [7, 3, 0, 0, 0, 0, 0, 0],
+        [115, 5, 0, 0, 0, 0, 0, 0],
+    )
 }
 
 fn nine_groups() -> Plan {
@@ -60,11 +60,7 @@ fn openings() {
 
 // The example's state at a slot, with a register.
 fn state_at(slot: u16, register: u32) -> FrameState {
-    let opened = plan::open(example(), 16777216, 1);
-    let mut state = opened.state;
-    state.slot = slot;
-    state.register = register;
-    state
+    plan::state_at(example(), 16777216, 1, slot, register)
 }
 
 fn passes() {

@@ -1,8 +1,7 @@
 -- Characters and decimal numbers as octets.
-use mathlib.Core.Bool.{Bool, _&&_}
 use mathlib.Core.List.{List, [], _∷_}
 use Prim.Native.Nat.{ℕ, _+_, _/_, _%_}
-use lib.Dec.{leb, ltb}
+use lib.Dec.{ltb}
 use Rattle.lists.specs.Choice.{pick}
 
 abbrev pub SPACE : ℕ
@@ -13,10 +12,6 @@ LINE-FEED = 10
 
 abbrev pub ZERO : ℕ
 ZERO = 48
-
--- '0' to '9'
-abbrev pub isDigit : ℕ → Bool
-isDigit c = leb 48 c && leb c 57
 
 -- a number below 1000 in decimal, with no leading zero
 unfoldable pub decimal : ℕ → List ℕ

@@ -1,4 +1,6 @@
 pub mod Characters
+pub mod Numerals
+pub mod NumeralLaws
 pub mod Reading
 pub mod ReadingLaws
 pub mod Listing

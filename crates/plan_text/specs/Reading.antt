@@ -2,29 +2,26 @@
 -- the end of a text stands 0, which is neither a digit nor a separator.
 use mathlib.Core.Bool.{Bool, _&&_, _||_, not}
 use mathlib.Core.List.{List}
-use Prim.Native.Nat.{ℕ, zero, suc, _+_, _-_, _*_}
+use Prim.Native.Nat.{ℕ, zero, suc, _+_}
 use lib.Dec.{eqb, leb, ltb}
-use lib.ListN.{length, getD, replicate}
+use lib.ListN.{length, getD}
 use Rattle.lists.specs.Choice.{pick, andThen}
 use Rattle.lists.specs.Count.{first, table}
 use Rattle.refusal.specs.Numbers.{PLAN}
 use Rattle.plan.specs.declared.Plan.{Plan}
+use Rattle.plan.specs.Records.{ofColumns, noPlan}
 use Rattle.plan.specs.Plans.{planNumber}
 use Rattle.plan_text.specs.declared.Line.{Line}
 use Rattle.plan_text.specs.declared.PlanRead.{PlanRead}
-use Rattle.plan_text.specs.Characters.{SPACE, LINE-FEED, ZERO, isDigit}
+use Rattle.plan_text.specs.Characters.{SPACE, LINE-FEED, ZERO}
+use Rattle.plan_text.specs.Numerals.{isDigit, valueOf}
 
 -- how many digits stand at a place, counted up to three
 unfoldable pub digitsAt : List ℕ → ℕ → ℕ
 digitsAt t at =
-    pick (isDigit (getD t at 0))
-    (pick (isDigit (getD t (at + 1) 0)) (pick (isDigit (getD t (at + 2) 0)) 3 2) 1)
+    pick (isDigit 10 (getD t at 0))
+    (pick (isDigit 10 (getD t (at + 1) 0)) (pick (isDigit 10 (getD t (at + 2) 0)) 3 2) 1)
     0
-
--- the number that k digits from a place on make
-unfoldable pub valueOf : List ℕ → ℕ → ℕ → ℕ
-valueOf t at zero = 0
-valueOf t at (suc k) = valueOf t at k * 10 + (getD t (at + k) 0 - ZERO)
 
 -- "1 to 3 digits, no leading zero except 0 itself", and behind them the separator
 unfoldable pub fieldOk : List ℕ → ℕ → ℕ → Bool
@@ -33,7 +30,7 @@ fieldOk t at separator =
     && ((eqb (digitsAt t at) 1 || not (eqb (getD t at 0) ZERO)) && eqb (getD t (at + digitsAt t at) 0) separator)
 
 abbrev pub fieldValue : List ℕ → ℕ → ℕ
-fieldValue t at = valueOf t at (digitsAt t at)
+fieldValue t at = valueOf 10 t at (digitsAt t at)
 
 -- the place behind a field and its separator
 abbrev pub fieldEnd : List ℕ → ℕ → ℕ
@@ -82,18 +79,12 @@ column f n = table 8 (λ g. pick (ltb g n) (f g) 0)
 
 unfoldable pub planOf : List ℕ → Plan
 planOf t =
-    record {
-      count = linesOf t;
-      modulation = column (λ g. lineOf t (lineStart t g) .modulation) (linesOf t);
-      rate = column (λ g. lineOf t (lineStart t g) .rate) (linesOf t);
-      slots = column (λ g. lineOf t (lineStart t g) .slots) (linesOf t);
-    }
+    ofColumns (linesOf t)
+    (column (λ g. lineOf t (lineStart t g) .modulation) (linesOf t))
+    (column (λ g. lineOf t (lineStart t g) .rate) (linesOf t))
+    (column (λ g. lineOf t (lineStart t g) .slots) (linesOf t))
 
--- "Every other number returned with a refusal is 0"
-abbrev pub noPlan : Plan
-noPlan = record { count = 0; modulation = replicate 8 0; rate = replicate 8 0; slots = replicate 8 0 }
-
--- a number, with the text's plan where it is 0
+-- a number, with the text's plan where it is 0; "Every other number returned with a refusal is 0"
 abbrev pub readAs : ℕ → List ℕ → PlanRead
 readAs n t = record { number = n; plan = pick (eqb n 0) (planOf t) noPlan }
 

@@ -14,8 +14,10 @@ use lib.Seq.{getD-set-same, getD-set-other}
 use Rattle.lists.specs.Choice.{pick}
 use Rattle.lists.specs.ChoiceLaws.{and-left, and-right}
 use Rattle.lists.specs.CountLaws.{table-is, getD-table, length-table}
-use Rattle.plan_text.specs.Characters.{ZERO, isDigit}
-use Rattle.plan_text.specs.Reading.{digitsAt, valueOf, fieldOk, fieldEnd, fieldStart, lineOk, lineOf, lineStart, column}
+use Rattle.plan_text.specs.Characters.{ZERO}
+use Rattle.plan_text.specs.Numerals.{isDigit, valueOf}
+use Rattle.plan_text.specs.NumeralLaws.{value-lt}
+use Rattle.plan_text.specs.Reading.{digitsAt, fieldOk, fieldEnd, fieldStart, lineOk, lineOf, lineStart, column}
 
 -- by the three tests of digits
 few : (a b c : Bool) → pick a (pick b (pick c 3 2) 1) 0 ≤ 3
@@ -26,7 +28,7 @@ few false b c = omega arith
 
 pub digits-most : (t : List ℕ) (at : ℕ) → digitsAt t at ≤ 3
 unfolding digitsAt
-digits-most t at = few (isDigit (getD t at 0)) (isDigit (getD t (at + 1) 0)) (isDigit (getD t (at + 2) 0))
+digits-most t at = few (isDigit 10 (getD t at 0)) (isDigit 10 (getD t (at + 1) 0)) (isDigit 10 (getD t (at + 2) 0))
 
 -- each octet that is counted is a digit
 counted : (f : ℕ → Bool) (k : ℕ) → (a b c : Bool) → f 0 ≡ a → f 1 ≡ b → f 2 ≡ c → k < pick a (pick b (pick c 3 2) 1) 0 → f k ≡ true
@@ -41,34 +43,11 @@ counted f (suc (suc zero)) true false c p q r h = absurd (omega arith)
 counted f (suc (suc zero)) false b c p q r h = absurd (omega arith)
 counted f (suc (suc (suc k))) a b c p q r h = absurd (omega (arith, few a b c))
 
-pub digits-are : (t : List ℕ) (at k : ℕ) → k < digitsAt t at → isDigit (getD t (at + k) 0) ≡ true
+pub digits-are : (t : List ℕ) (at k : ℕ) → k < digitsAt t at → isDigit 10 (getD t (at + k) 0) ≡ true
 unfolding digitsAt
 digits-are t at k h =
     let e : at + 0 ≡ at = omega arith in
-    counted (λ j. isDigit (getD t (at + j) 0)) k _ _ _ (ap (λ (n : ℕ). isDigit (getD t n 0)) e) refl refl h
-
-pub value-none : (t : List ℕ) (at : ℕ) → valueOf t at 0 ≡ 0
-unfolding valueOf
-value-none t at = refl
-
-pub value-more : (t : List ℕ) (at k : ℕ) → valueOf t at (k + 1) ≡ valueOf t at k * 10 + (getD t (at + k) 0 - ZERO)
-unfolding valueOf
-value-more t at k = rw add-one
-
--- a digit's octet
-pub record Digit (c : ℕ) : Type 0 where
-  pub low : 48 ≤ c
-  pub high : c ≤ 57
-
-pub digit-is : (c : ℕ) → isDigit c ≡ true → Digit c
-digit-is c h = record { low = leb-true 48 c (and-left (leb 48 c) _ h); high = leb-true c 57 (and-right (leb 48 c) _ h) }
-
-pub value-lt : (t : List ℕ) (at k : ℕ) → k ≤ digitsAt t at → valueOf t at k < 10 ^ k
-unfolding valueOf
-value-lt t at zero h = omega arith
-value-lt t at (suc k) h =
-    let d = digit-is (getD t (at + k) 0) (digits-are t at k h) in
-    omega (arith, value-lt t at k (omega arith), pow-suc 10 k)
+    counted (λ j. isDigit 10 (getD t (at + j) 0)) k _ _ _ (ap (λ (n : ℕ). isDigit 10 (getD t n 0)) e) refl refl h
 
 thousand : (k : ℕ) → k ≤ 3 → 10 ^ k ≤ 1000
 thousand zero h = omega arith
@@ -77,13 +56,11 @@ thousand (suc (suc zero)) h = omega arith
 thousand (suc (suc (suc zero))) h = omega arith
 thousand (suc (suc (suc (suc k)))) h = absurd (omega arith)
 
-pub value-small : (t : List ℕ) (at k : ℕ) → k ≤ digitsAt t at → valueOf t at k ≤ 999
-value-small t at k h = omega (arith, value-lt t at k h, digits-most t at, thousand k (omega (arith, digits-most t at)))
-
--- where a digit more is to come
-pub value-room : (t : List ℕ) (at k : ℕ) → k < digitsAt t at → valueOf t at k ≤ 99
-value-room t at k h =
-    omega (arith, value-lt t at k (omega arith), pow-suc 10 k, thousand (suc k) (omega (arith, digits-most t at)))
+-- the number of a field has three digits at most
+pub field-small : (t : List ℕ) (at : ℕ) → valueOf 10 t at (digitsAt t at) ≤ 999
+field-small t at =
+    let m = digits-most t at in
+    omega (arith, value-lt 10 t at (digitsAt t at) (λ k h. digits-are t at k h), thousand (digitsAt t at) m)
 
 -- fields end soon
 pub field-near : (t : List ℕ) (at : ℕ) → fieldEnd t at ≤ at + 4

@@ -1,10 +1,13 @@
 // The text of plan-list: a plan's lines read, and the list of its runs written.
 mod list;
+mod numerals;
 mod read;
 mod write;
 
 pub use list::answer;
 pub use list::write_list;
+pub use numerals::digit;
+pub use numerals::value;
 use plan::Plan;
 pub use read::read_plan;
 

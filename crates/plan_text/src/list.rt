@@ -48,7 +48,7 @@ fn write_group(out: &mut [u8], at: usize, plan: Plan, g: usize, passed: usize) -
     let slots = lists::index(plan.slots[g]);
     let modulation = lists::index(plan.modulation[g]);
     let rate = lists::index(plan.rate[g]);
-    let filled = passed + slots * modulation / 5;
+    let filled = passed + plan::data_slots(plan, g);
     let end = passed + slots;
     let next = write_run(out, at, passed + 1, filled, modulation, rate, b"data\n");
     write_run(out, next, filled + 1, end, modulation, rate, b"dummy\n")
@@ -79,7 +79,7 @@ fn data_total(plan: Plan) -> usize
     let mut g: usize = 0;
     let mut sum: usize = 0;
     while g < count {
-        sum += lists::index(plan.slots[g]) * lists::index(plan.modulation[g]) / 5;
+        sum += plan::data_slots(plan, g);
         g += 1;
     }
     sum

@@ -4,34 +4,24 @@ ghost use mathlib.Core.Path.{_≡_};
 ghost use Prim.Native.Nat.{_≤_};
 ghost use lib.Dec.{eqb};
 ghost use lib.ListN.{length, getD};
-ghost use Rattle.plan_text.specs.Characters.{SPACE, LINE-FEED, ZERO, isDigit};
+ghost use Rattle.plan.specs.Records.{noPlan};
+ghost use Rattle.plan_text.specs.Characters.{SPACE, LINE-FEED, ZERO};
 ghost use Rattle.plan_text.specs.Needs.{Fields};
-ghost use Rattle.plan_text.specs.Reading.{digitsAt, fieldOk, fieldValue, fieldEnd, lineOf, textNumber, noPlan, readAs, planRead};
+ghost use Rattle.plan_text.specs.Numerals.{isDigit};
+ghost use Rattle.plan_text.specs.Reading.{digitsAt, fieldOk, fieldValue, fieldEnd, lineOf, textNumber, readAs, planRead};
 use crate::Line;
 use crate::PlanRead;
-use plan::Plan;
+use crate::numerals::digit;
+use crate::numerals::value;
 
 const SPACE: u8 = 32;
 
 const LINE_FEED: u8 = 10;
 
-// The octet at a place, and 0 past the end.
-fn octet_at(text: &[u8], at: usize) -> u8
-    ensures { λ r. ⌜ r ≡ getD (now (text .entry)) at 0 ⌝ }
-{
-    if at < text.len() {
-        return text[at];
-    }
-    0
-}
-
 fn is_digit(c: u8) -> bool
-    ensures { λ r. ⌜ r ≡ isDigit c ⌝ }
+    ensures { λ r. ⌜ r ≡ isDigit 10 c ⌝ }
 {
-    if c < 48 {
-        return false;
-    }
-    c <= 57
+    digit(c) < 10
 }
 
 // How many digits stand at a place, counted up to three.
@@ -39,9 +29,9 @@ fn digits_at(text: &[u8], at: usize) -> usize
     requires { ⌜ at ≤ 65536 ⌝ }
     ensures { λ r. ⌜ r ≡ digitsAt (now (text .entry)) at ⌝ }
 {
-    if is_digit(octet_at(text, at)) {
-        if is_digit(octet_at(text, at + 1)) {
-            if is_digit(octet_at(text, at + 2)) {
+    if is_digit(lists::octet_at(text, at)) {
+        if is_digit(lists::octet_at(text, at + 1)) {
+            if is_digit(lists::octet_at(text, at + 2)) {
                 return 3;
             }
             return 2;
@@ -57,13 +47,7 @@ fn field_value(text: &[u8], at: usize) -> u16
     ensures { λ r. ⌜ r ≡ fieldValue (now (text .entry)) at ⌝ }
 {
     let count = digits_at(text, at);
-    let mut value: u16 = 0;
-    let mut k: usize = 0;
-    while k < count {
-        value = value * 10 + (octet_at(text, at + k) - 48) as u16;
-        k += 1;
-    }
-    value
+    value(10, text, at, count) as u16
 }
 
 // Whether digits at a place begin with no needless zero.
@@ -73,7 +57,7 @@ fn no_leading_zero(text: &[u8], at: usize, count: usize) -> bool
     if count == 1 {
         return true;
     }
-    octet_at(text, at) != 48
+    lists::octet_at(text, at) != 48
 }
 
 // Whether a number stands at a place, with the separator behind it.
@@ -86,7 +70,7 @@ fn field_ok(text: &[u8], at: usize, separator: u8) -> bool
         return false;
     }
     if no_leading_zero(text, at, count) {
-        return octet_at(text, at + count) == separator;
+        return lists::octet_at(text, at + count) == separator;
     }
     false
 }
@@ -134,16 +118,8 @@ fn read_line(text: &[u8], at: usize) -> Line
 fn refused(number: u8) -> PlanRead
     ensures { λ r. ⌜ r ≡ record { number = number; plan = noPlan } ⌝ }
 {
-    let none = [0u16; 8];
-    PlanRead {
-        number,
-        plan: Plan {
-            count: 0,
-            modulation: none,
-            rate: none,
-            slots: none,
-        },
-    }
+    let plan = plan::no_plan();
+    PlanRead { number, plan }
 }
 
 // The lines of a text that is not too long, one for each group.
@@ -172,15 +148,8 @@ fn read_lines(text: &[u8]) -> PlanRead
             return refused(refusal::PLAN);
         }
     }
-    PlanRead {
-        number: 0,
-        plan: Plan {
-            count,
-            modulation,
-            rate,
-            slots,
-        },
-    }
+    let plan = plan::of_columns(count, modulation, rate, slots);
+    PlanRead { number: 0, plan }
 }
 
 // Reads a plan: 0 and the plan, or the refusal of the text or of the plan and a plan of zeros.

@@ -8,12 +8,14 @@ use borrow.Author.Tests.{lt-leb, eq-eqb, ne-eqb, eqb-true}
 use lib.Dec.{eqb}
 use lib.ListN.{length}
 use Rattle.lists.specs.Choice.{pick, andThen}
-use Rattle.lists.specs.ChoiceLaws.{then-zero, then-next, then-first, pick-yes}
+use Rattle.lists.specs.ChoiceLaws.{then-zero, then-next, then-first, not-refused}
+use Rattle.refusal.specs.Numbers.{LENGTH}
 use Rattle.refusal.specs.Answers.{Answered}
 use Rattle.refusal.specs.AnswerLaws.{refused}
 use Rattle.plan.specs.declared.Plan.{Plan}
 use Rattle.plan.specs.declared.FrameState.{FrameState}
 use Rattle.plan.specs.declared.Answer.{Answer}
+use Rattle.plan.specs.Records.{stateAt}
 use Rattle.plan.specs.States.{movedOn, soundNumber, stateNumber, passNumber, passed}
 use Rattle.plan.specs.StateLaws.{ready}
 use Rattle.slot.specs.Slots.{slotOf}
@@ -21,11 +23,11 @@ use Rattle.slot.specs.Reading.{sourceOf}
 use Rattle.slot.specs.Calls.{rowsAt, dataNumber, slotNumber, nextState, codeAnswer, codeArea, readNumber, readAnswer, readArea}
 use Rattle.s3frame.specs.Narrow.{narrowed}
 use Rattle.s3frame.specs.NarrowLaws.{as-given, both-refuse}
-use Rattle.s3frame.specs.Calls.{stateOf, placed, nextNumber, passCall, slotCall, readCall, Coded, Received}
+use Rattle.s3frame.specs.Calls.{placed, nextNumber, passCall, slotCall, readCall, Coded, Received}
 
 pub next-two : (next : List ℕ) → nextNumber next ≡ 0 → length next ≡ 2
 unfolding nextNumber
-next-two next h = eqb-true (length next) 2 (pick-yes (eqb (length next) 2) 0 3 h .0)
+next-two next h = eqb-true (length next) 2 (not-refused (eqb (length next) 2) LENGTH (omega arith) h)
 
 -- a refusal goes through what is tested behind it
 onward : (a b d : ℕ) → a ≡ b → (b ≡ 0 → ⊥) → andThen a d ≡ b
@@ -48,30 +50,30 @@ module _ (s : FrameState) (n : stateNumber s ≡ 0 → ⊥) (next : List ℕ) wh
 
 -- slot numbers past 120 are refused alike
 module _ (p : Plan) (mask start x register : ℕ) (h : 120 < x) where
-  full-alike : stateNumber (stateOf p mask start 255 register) ≡ stateNumber (stateOf p mask start x register)
+  full-alike : stateNumber (stateAt p mask start 255 register) ≡ stateNumber (stateAt p mask start x register)
   unfolding stateNumber soundNumber
   full-alike = rw (ne-eqb x 0 (λ e. omega arith), lt-leb x 120 h)
 
-  full-refused : stateNumber (stateOf p mask start x register) ≡ 0 → ⊥
-  full-refused z = omega (arith, ready (stateOf p mask start x register) z .left)
+  full-refused : stateNumber (stateAt p mask start x register) ≡ 0 → ⊥
+  full-refused z = omega (arith, ready (stateAt p mask start x register) z .left)
 
 -- a call that begins with the state's own refusal answers for the slot number as it was handed over
 place-given : (f : FrameState → ℕ) (g : FrameState → List ℕ)
     → ((s : FrameState) → (stateNumber s ≡ 0 → ⊥) → f s ≡ stateNumber s)
     → (p : Plan) (mask start slot register : ℕ) (found : List ℕ) (r : ℕ) (left : List ℕ)
-    → Answered (f (stateOf p mask start (narrowed slot) register)) (g (stateOf p mask start (narrowed slot) register)) found r left
-    → Answered (f (stateOf p mask start slot register)) (g (stateOf p mask start slot register)) found r left
+    → Answered (f (stateAt p mask start (narrowed slot) register)) (g (stateAt p mask start (narrowed slot) register)) found r left
+    → Answered (f (stateAt p mask start slot register)) (g (stateAt p mask start slot register)) found r left
 place-given f g first p mask start slot register found r left =
-    as-given (λ x. Answered (f (stateOf p mask start x register)) (g (stateOf p mask start x register)) found r left) slot
+    as-given (λ x. Answered (f (stateAt p mask start x register)) (g (stateAt p mask start x register)) found r left) slot
     (λ h.
     let a = full-alike p mask start slot register (omega arith) in
     let n = full-refused p mask start slot register (omega arith) in
-    let e = first (stateOf p mask start slot register) n in
-    both-refuse _ _ _ _ _ _ _ (first (stateOf p mask start 255 register) (λ z. n (sym a ∙ z)) ∙ a ∙ sym e) (λ z. n (sym e ∙ z)))
+    let e = first (stateAt p mask start slot register) n in
+    both-refuse _ _ _ _ _ _ _ (first (stateAt p mask start 255 register) (λ z. n (sym a ∙ z)) ∙ a ∙ sym e) (λ z. n (sym e ∙ z)))
 
 pub pass-given : (p : Plan) (mask start slot register : ℕ) (next : List ℕ) (r : ℕ) (left : List ℕ)
-    → Answered (passCall (stateOf p mask start (narrowed slot) register) next) (placed (movedOn (stateOf p mask start (narrowed slot) register) register)) next r left
-    → Answered (passCall (stateOf p mask start slot register) next) (placed (movedOn (stateOf p mask start slot register) register)) next r left
+    → Answered (passCall (stateAt p mask start (narrowed slot) register) next) (placed (movedOn (stateAt p mask start (narrowed slot) register) register)) next r left
+    → Answered (passCall (stateAt p mask start slot register) next) (placed (movedOn (stateAt p mask start slot register) register)) next r left
 pass-given p mask start slot register next =
     place-given (λ s. passCall s next) (λ s. placed (movedOn s (s .register))) (λ s n. pass-first s n next) p mask start slot register next
 
@@ -144,7 +146,7 @@ module _ (s : FrameState) (t source coded next : List ℕ) (r : ℕ) (e : r ≡ 
 
 -- slot calls answer for the slot number as it was handed over
 module _ (p : Plan) (mask start slot register : ℕ) (t source coded next : List ℕ) (r : ℕ) (area left : List ℕ) where
-  pub code-given : Coded (stateOf p mask start (narrowed slot) register) t source coded next r area left → Coded (stateOf p mask start slot register) t source coded next r area left
+  pub code-given : Coded (stateAt p mask start (narrowed slot) register) t source coded next r area left → Coded (stateAt p mask start slot register) t source coded next r area left
   code-given c =
       record {
         slot =
@@ -155,7 +157,7 @@ module _ (p : Plan) (mask start slot register : ℕ) (t source coded next : List
             p mask start slot register next r left (c .place);
       }
 
-  pub receive-given : Received (stateOf p mask start (narrowed slot) register) t coded source next r area left → Received (stateOf p mask start slot register) t coded source next r area left
+  pub receive-given : Received (stateAt p mask start (narrowed slot) register) t coded source next r area left → Received (stateAt p mask start slot register) t coded source next r area left
   receive-given c =
       record {
         octets =

@@ -15,11 +15,6 @@ use Rattle.slot.specs.Slots.{slotOf}
 use Rattle.slot.specs.Reading.{receivedNumber, sourceOf}
 use Rattle.slot.specs.Calls.{rowsAt, dataNumber, lentNumber, nextState}
 
--- "The frame state holds the plan, its register settings, the next slot number from 1 and the dispersal register"
-abbrev pub stateOf : Plan → ℕ → ℕ → ℕ → ℕ → FrameState
-stateOf p mask start slot register =
-    record { count = p .count; modulation = p .modulation; rate = p .rate; slots = p .slots; mask = mask; start = start; slot = slot; register = register }
-
 -- what `next` takes of a state
 abbrev pub placed : FrameState → List ℕ
 placed s = s .slot ∷ s .register ∷ []

@@ -3,9 +3,10 @@ use mathlib.Core.Bool.{Bool, _&&_}
 use mathlib.Core.List.{List, [], _∷_}
 use Prim.Native.Nat.{ℕ, _+_, _/_, _%_}
 use lib.Dec.{eqb, leb}
-use lib.ListN.{length, getD, replicate}
+use lib.ListN.{length, getD}
 use Rattle.lists.specs.Choice.{pick}
 use Rattle.plan.specs.declared.Plan.{Plan}
+use Rattle.plan.specs.Records.{ofColumns, noPlan}
 
 -- three octets for each of 1 to 8 groups
 unfoldable pub lengthOk : ℕ → Bool
@@ -24,13 +25,7 @@ column k octets =
     ∷ getD octets (k + 21) 0
     ∷ []
 
--- the plan of no groups, which every call refuses 1 before all else
-abbrev pub noPlan : Plan
-noPlan = record { count = 0; modulation = replicate 8 0; rate = replicate 8 0; slots = replicate 8 0 }
-
 -- the plan of octets: modulation, rate and slots of each group; of any other length none
 unfoldable pub planOf : List ℕ → Plan
 planOf octets =
-    pick (lengthOk (length octets))
-    (record { count = length octets / 3; modulation = column 0 octets; rate = column 1 octets; slots = column 2 octets })
-    noPlan
+    pick (lengthOk (length octets)) (ofColumns (length octets / 3) (column 0 octets) (column 1 octets) (column 2 octets)) noPlan

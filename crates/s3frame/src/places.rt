@@ -3,9 +3,10 @@ ghost use mathlib.Core.Path.{_≡_};
 ghost use lib.Dec.{eqb};
 ghost use lib.ListN.{length};
 ghost use Rattle.lists.specs.Choice.{pick, andThen};
+ghost use Rattle.plan.specs.Records.{stateAt};
 ghost use Rattle.s3frame.specs.Narrow.{narrowed};
 ghost use Rattle.s3frame.specs.Plans.{planOf};
-ghost use Rattle.s3frame.specs.Calls.{stateOf, placed, nextNumber};
+ghost use Rattle.s3frame.specs.Calls.{placed, nextNumber};
 use crate::numbers::narrow;
 use crate::numbers::word;
 use crate::plans::plan_of;
@@ -13,22 +14,9 @@ use plan::FrameState;
 
 // The state that a call is handed.
 pub fn state_of(plan: &[u8], mask: u32, start: u32, slot: u32, register: u32) -> FrameState
-    ensures { λ r. ⌜ r ≡ stateOf (planOf (now (plan .entry))) mask start (narrowed slot) register ⌝ }
+    ensures { λ r. ⌜ r ≡ stateAt (planOf (now (plan .entry))) mask start (narrowed slot) register ⌝ }
 {
-    let p = plan_of(plan);
-    let modulation = p.modulation;
-    let rate = p.rate;
-    let slots = p.slots;
-    FrameState {
-        count: p.count,
-        modulation,
-        rate,
-        slots,
-        mask,
-        start,
-        slot: narrow(slot),
-        register,
-    }
+    plan::state_at(plan_of(plan), mask, start, narrow(slot), register)
 }
 
 // A number that refuses, then the refusal of an area that is not two numbers long, or 0.

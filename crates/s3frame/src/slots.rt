@@ -1,8 +1,9 @@
 // Calls on one slot.
 ghost use mathlib.Core.Path.{_≡_};
 ghost use Rattle.slot.specs.Calls.{checkNumber};
+ghost use Rattle.plan.specs.Records.{stateAt};
 ghost use Rattle.s3frame.specs.Plans.{planOf};
-ghost use Rattle.s3frame.specs.Calls.{stateOf, Coded, Received};
+ghost use Rattle.s3frame.specs.Calls.{Coded, Received};
 use crate::numbers::narrow;
 use crate::numbers::word;
 use crate::places::put_moved;
@@ -22,7 +23,7 @@ pub extern "C" fn s3_code_slot(
     coded: &mut [u8],
     next: &mut [u32],
 ) -> u32
-    ensures { λ r. ⌜ Coded (stateOf (planOf (now (plan .entry))) mask start slot register) (now (table .entry)) (now (source .entry)) (now (coded .entry)) (now (next .entry)) r (now (coded .exit)) (now (next .exit)) ⌝ }
+    ensures { λ r. ⌜ Coded (stateAt (planOf (now (plan .entry))) mask start slot register) (now (table .entry)) (now (source .entry)) (now (coded .entry)) (now (next .entry)) r (now (coded .exit)) (now (next .exit)) ⌝ }
 {
     let state = state_of(plan, mask, start, slot, register);
     let number = with_next(slot::data_number(state), next);
@@ -49,7 +50,7 @@ pub extern "C" fn s3_read_slot(
     source: &mut [u8],
     next: &mut [u32],
 ) -> u32
-    ensures { λ r. ⌜ Received (stateOf (planOf (now (plan .entry))) mask start slot register) (now (table .entry)) (now (coded .entry)) (now (source .entry)) (now (next .entry)) r (now (source .exit)) (now (next .exit)) ⌝ }
+    ensures { λ r. ⌜ Received (stateAt (planOf (now (plan .entry))) mask start slot register) (now (table .entry)) (now (coded .entry)) (now (source .entry)) (now (next .entry)) r (now (source .exit)) (now (next .exit)) ⌝ }
 {
     let state = state_of(plan, mask, start, slot, register);
     let number = with_next(slot::data_number(state), next);

@@ -4,9 +4,10 @@ ghost use lib.Dec.{eqb};
 ghost use lib.ListN.{length};
 ghost use Rattle.lists.specs.Choice.{pick};
 ghost use Rattle.refusal.specs.Answers.{Answered};
+ghost use Rattle.plan.specs.Records.{stateAt};
 ghost use Rattle.plan.specs.States.{opened, movedOn};
 ghost use Rattle.s3frame.specs.Plans.{planOf};
-ghost use Rattle.s3frame.specs.Calls.{stateOf, placed, openCall, passCall};
+ghost use Rattle.s3frame.specs.Calls.{placed, openCall, passCall};
 use crate::places::put_place;
 use crate::places::state_of;
 use crate::places::with_next;
@@ -37,7 +38,7 @@ pub extern "C" fn s3_pass(
     register: u32,
     next: &mut [u32],
 ) -> u32
-    ensures { λ r. ⌜ Answered (passCall (stateOf (planOf (now (plan .entry))) mask start slot register) (now (next .entry))) (placed (movedOn (stateOf (planOf (now (plan .entry))) mask start slot register) register)) (now (next .entry)) r (now (next .exit)) ⌝ }
+    ensures { λ r. ⌜ Answered (passCall (stateAt (planOf (now (plan .entry))) mask start slot register) (now (next .entry))) (placed (movedOn (stateAt (planOf (now (plan .entry))) mask start slot register) register)) (now (next .entry)) r (now (next .exit)) ⌝ }
 {
     let answer = plan::pass(state_of(plan, mask, start, slot, register));
     let number = with_next(answer.number, next);

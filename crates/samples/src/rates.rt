@@ -10,12 +10,12 @@ pub const START: u32 = 12246029;
 
 // A frame of 32APSK, which has no dummies.
 pub fn plan_of(rate: u16) -> Plan {
-    Plan {
-        count: 1,
-        modulation: [5, 0, 0, 0, 0, 0, 0, 0],
-        rate: [rate, 0, 0, 0, 0, 0, 0, 0],
-        slots: [120, 0, 0, 0, 0, 0, 0, 0],
-    }
+    plan::of_columns(
+        1,
+        [5, 0, 0, 0, 0, 0, 0, 0],
+        [rate, 0, 0, 0, 0, 0, 0, 0],
+        [120, 0, 0, 0, 0, 0, 0, 0],
+    )
 }
 
 // The state at its first slot.

@@ -4,7 +4,7 @@ use libc::STDOUT_FILENO;
 use plan::FrameState;
 
 // Makes what is coded next depend on the slot before it.
-fn carry(coded: &[u8; 5610], source: &mut [u8]) {
+fn carry(coded: &[u8; plan::SLOT_OCTETS], source: &mut [u8]) {
     if 0 < source.len() {
         source[0] = coded[5609];
     }
@@ -15,7 +15,7 @@ fn code_slots(
     table: &[u16],
     count: u64,
     source: &mut [u8],
-    coded: &mut [u8; 5610],
+    coded: &mut [u8; plan::SLOT_OCTETS],
 ) {
     let mut n: u64 = 0;
     while n < count {
@@ -30,7 +30,7 @@ fn read_slots(
     state: FrameState,
     table: &[u16],
     count: u64,
-    coded: &[u8; 5610],
+    coded: &[u8; plan::SLOT_OCTETS],
     found: &mut [u8],
 ) -> u64 {
     let mut sum: u64 = 0;
@@ -50,7 +50,14 @@ pub fn field(name: &[u8], value: u64) {
 }
 
 // A line with the digests of the last slot coded and of what was read last.
-fn line(rate: u16, codings: u64, readings: u64, registers: u64, coded: &[u8; 5610], found: &[u8]) {
+fn line(
+    rate: u16,
+    codings: u64,
+    readings: u64,
+    registers: u64,
+    coded: &[u8; plan::SLOT_OCTETS],
+    found: &[u8],
+) {
     field(b"rate ", rate as u64);
     field(b" coded ", codings);
     field(b" digest ", samples::digest(coded));
@@ -62,7 +69,7 @@ fn line(rate: u16, codings: u64, readings: u64, registers: u64, coded: &[u8; 561
 
 fn run(rate: u16, codings: u64, readings: u64, table: &[u16], source: &mut [u8], found: &mut [u8]) {
     let state = samples::opened(rate);
-    let mut coded = [0u8; 5610];
+    let mut coded = [0u8; plan::SLOT_OCTETS];
     samples::fill(rate as u64, source);
     code_slots(state, table, codings, source, &mut coded);
     let registers = read_slots(state, table, readings, &coded, found);

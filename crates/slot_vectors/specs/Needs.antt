@@ -6,11 +6,12 @@ use Prim.Native.Nat.{ℕ}
 use lib.ListN.{length}
 use Rattle.ldpc.specs.Needs.{Rows}
 use Rattle.ldpc.specs.Tables.{tableOk}
+use Rattle.plan.specs.Sizes.{slotBits, slotOctets}
 
 -- an accepted table, a slot, and an area each for its bits and for the parity of any number of rows
 pub record Remade (rows : ℕ) (table coded bits sums : List ℕ) : Type 0 where
   pub rate : Rows rows
   pub accepted : tableOk rows table ≡ true
-  pub coded-long : length coded ≡ 5610
-  pub bits-long : length bits ≡ 44880
-  pub sums-long : length sums ≡ 44880
+  pub coded-long : length coded ≡ slotOctets
+  pub bits-long : length bits ≡ slotBits
+  pub sums-long : length sums ≡ slotBits

@@ -6,22 +6,22 @@ fn remake(rows: usize, table: &[u16], coded: &mut [u8], bits: &mut [u8], sums: &
     requires { ⌜ Remade rows (now table) (now coded) (now bits) (now sums) ⌝ }
 {
     let end = 374 * rows;
-    let count = 44880 - end;
+    let count = plan::SLOT_BITS - end;
     bits::expand(coded, bits);
     ldpc::parity(rows, table, &bits[0..end], &mut sums[0..count]);
-    bits::copy(&sums[0..count], &mut bits[end..44880]);
+    bits::copy(&sums[0..count], &mut bits[end..plan::SLOT_BITS]);
     bits::collect(bits, coded);
 }
 
 // Puts the parity behind a slot's bits, where rate and table are accepted.
-pub fn put_parity(rate: u16, table: &[u16], coded: &mut [u8; 5610]) {
+pub fn put_parity(rate: u16, table: &[u16], coded: &mut [u8; plan::SLOT_OCTETS]) {
     let rows = plan::rows(rate);
     if rows == 0 {
         return;
     }
     if ldpc::table_ok(rows, table) {
-        let mut bits = [0u8; 44880];
-        let mut sums = [0u8; 44880];
+        let mut bits = [0u8; plan::SLOT_BITS];
+        let mut sums = [0u8; plan::SLOT_BITS];
         remake(rows, table, coded, &mut bits, &mut sums);
     }
 }

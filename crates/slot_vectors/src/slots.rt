@@ -1,5 +1,6 @@
 // Slots coded and read.
 ghost use Prim.Native.Nat.{_<_};
+ghost use Rattle.plan.specs.Sizes.{slotOctets};
 ghost use Rattle.samples.specs.Areas.{Room};
 use crate::anew;
 use crate::lines;
@@ -12,7 +13,7 @@ fn read_line(
     table: &[u16],
     damage: &[u8],
     more: &[u8],
-    coded: &[u8; 5610],
+    coded: &[u8; plan::SLOT_OCTETS],
     found: &mut [u8],
 ) {
     samples::fill(0, found);
@@ -28,10 +29,10 @@ fn damaged_lines(
     table: &[u16],
     damage: &[u8],
     octet: usize,
-    coded: [u8; 5610],
+    coded: [u8; plan::SLOT_OCTETS],
     found: &mut [u8],
 )
-    requires { ⌜ octet < 5610 ⌝ }
+    requires { ⌜ octet < slotOctets ⌝ }
 {
     let mut damaged = coded;
     damaged[octet] = std::num::wrapping_add_u8(damaged[octet], 128);
@@ -49,7 +50,13 @@ fn damaged_lines(
 }
 
 // Damages a bit of each part of a slot.
-fn read_lines(rate: u16, state: FrameState, table: &[u16], coded: [u8; 5610], found: &mut [u8]) {
+fn read_lines(
+    rate: u16,
+    state: FrameState,
+    table: &[u16],
+    coded: [u8; plan::SLOT_OCTETS],
+    found: &mut [u8],
+) {
     let bch = samples::source_length(rate);
     read_line(rate, state, table, b" whole", b"", &coded, found);
     damaged_lines(rate, state, table, b" header", 0, coded, found);
@@ -66,7 +73,7 @@ fn slot_lines(
     source: &mut [u8],
     found: &mut [u8],
 ) -> FrameState {
-    let mut coded = [0u8; 5610];
+    let mut coded = [0u8; plan::SLOT_OCTETS];
     samples::fill(100 * (rate as u64) + (state.slot as u64), source);
     let answer = slot_coder::code_slot(state, table, source, &mut coded);
     lines::coded(rate, state.slot, answer, &coded);

@@ -9,7 +9,7 @@ use lib.Dec.{eqb}
 use lib.ListN.{length, take, replicate, length-replicate}
 use lib.Seq.{length-take-le}
 use Rattle.lists.specs.Choice.{pick}
-use Rattle.lists.specs.ChoiceLaws.{then-zero, then-first, then-next, pick-yes}
+use Rattle.lists.specs.ChoiceLaws.{then-zero, then-first, then-next, not-refused}
 use Rattle.refusal.specs.Numbers.{LENGTH}
 use Rattle.plan.specs.declared.FrameState.{FrameState}
 use Rattle.plan.specs.Rates.{rateOk, rowsOf, dataBitsOf, dataOctetsOf, packetsOf}
@@ -107,7 +107,7 @@ pub room : (s : FrameState) (packets : List ℕ) → roomNumber s packets ≡ 0 
 unfolding roomNumber
 room s packets h =
     let a = then-zero (dataNumber s) _ h in
-    record { place = a .0; long = eqb-true (length packets) _ (pick-yes (eqb (length packets) (188 * packetsOf (rateAt s))) 0 3 (a .1) .0) }
+    record { place = a .0; long = eqb-true (length packets) _ (not-refused (eqb (length packets) (188 * packetsOf (rateAt s))) LENGTH (omega arith) (a .1)) }
 
 -- the part of the area for header and data octets that a rate takes
 pub source-within : (n r : ℕ) → n ≡ dataOctetsOf r → 22 + n ≤ length (replicate {A = ℕ} 5071 0)

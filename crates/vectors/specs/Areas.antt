@@ -5,6 +5,7 @@ use mathlib.Core.Bool.{true}
 use Prim.Native.Nat.{ℕ, _≤_}
 use lib.ListN.{length}
 use Rattle.ldpc.specs.Tables.{tableOk}
+use Rattle.plan.specs.Sizes.{blockBits, blockOctets}
 
 -- room for eight tables, and for the header and data octets of a frame at the highest rate, of which so many are taken
 pub record Room (octets : ℕ) (tables source : List ℕ) : Type 0 where
@@ -15,6 +16,6 @@ pub record Room (octets : ℕ) (tables source : List ℕ) : Type 0 where
 -- an accepted table of rate 3, a TMCC block, and areas for its bits and for its parity input
 pub record Remade (table block bits input : List ℕ) : Type 0 where
   pub accepted : tableOk 61 table ≡ true
-  pub block-long : length block ≡ 3960
-  pub bits-long : length bits ≡ 31680
+  pub block-long : length block ≡ blockOctets
+  pub bits-long : length bits ≡ blockBits
   pub input-long : length input ≡ 22814

@@ -7,14 +7,14 @@ fn remake(table: &[u16], block: &mut [u8], bits: &mut [u8], input: &mut [u8])
 {
     bits::expand(block, bits);
     bits::copy(&bits[0..9614], &mut input[1870..11484]);
-    ldpc::parity(61, table, input, &mut bits[9614..31680]);
+    ldpc::parity(61, table, input, &mut bits[9614..plan::BLOCK_BITS]);
     bits::collect(bits, block);
 }
 
 // Puts the parity behind a block's bits, where the table is accepted.
-pub fn put_parity(table: &[u16], block: &mut [u8; 3960]) {
+pub fn put_parity(table: &[u16], block: &mut [u8; plan::BLOCK_OCTETS]) {
     if ldpc::table_ok(61, table) {
-        let mut bits = [0u8; 31680];
+        let mut bits = [0u8; plan::BLOCK_BITS];
         let mut input = [0u8; 22814];
         remake(table, block, &mut bits, &mut input);
     }

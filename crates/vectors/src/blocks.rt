@@ -35,7 +35,7 @@ fn read_line(words: &[u8], table: &[u16], block: &[u8], source: &mut [u8]) {
     lines::end(words, number as u64, b" digest ", samples::digest(source));
 }
 
-fn read_lines(table: &[u16], block: &mut [u8; 3960], source: &mut [u8]) {
+fn read_lines(table: &[u16], block: &mut [u8; plan::BLOCK_OCTETS], source: &mut [u8]) {
     read_line(b"block read ", table, block, source);
     areas::damage(0, block);
     read_line(b"block damaged read ", table, block, source);
@@ -43,7 +43,7 @@ fn read_lines(table: &[u16], block: &mut [u8; 3960], source: &mut [u8]) {
     read_line(b"block damaged, parity anew read ", table, block, source);
 }
 
-fn block_lines(table: &[u16], source: &mut [u8], block: &mut [u8; 3960])
+fn block_lines(table: &[u16], source: &mut [u8], block: &mut [u8; plan::BLOCK_OCTETS])
     requires { ⌜ length (now source) ≡ 1178 ⌝ }
 {
     code_line(b"block coded ", 0, table, source, block);
@@ -54,7 +54,7 @@ fn block_lines(table: &[u16], source: &mut [u8], block: &mut [u8; 3960])
 pub fn run() {
     let mut table = [0u16; 356];
     let mut source = [0u8; 1178];
-    let mut block = [0u8; 3960];
+    let mut block = [0u8; plan::BLOCK_OCTETS];
     published::copy_table(3, &mut table);
     block_lines(&table, &mut source, &mut block);
 }

@@ -1,10 +1,12 @@
 -- `files::number_in`: the tests of the definition, one after the other.
-use mathlib.Core.Path.{sym, ap, _∙_}
+use mathlib.Core.Path.{_≡_, sym, ap, _∙_}
+use Prim.Native.Nat.{_+_}
 use native.Mathlib.Omega.{arith}
 use borrow.Author.Needs.{needs}
 use borrow.Author.Tests.{le-leb, lt-leb}
 use lib.ListN.{length}
-use Rattle.files.specs.Texts.{said, numberIn}
+use Rattle.lists.specs.CountLaws.{every-at}
+use Rattle.files.specs.Texts.{digitAt, said, numberIn}
 use Rattle.files.proofs.numbers.number_in.Statement.{statement}
 use Rattle.files.proofs.numbers.number_in.Tie as tie
 
@@ -38,7 +40,14 @@ returns-4 c =
 value-requires : tie.Need-value-requires
 value-requires c κs =
     let s = c .before .before .before .before .before in
-    record { small = s .pre .small; few = omega (arith, s .pre .few); right = sym (c .before .all-digits .ensures) ∙ c .if3 .taken }
+    let t = s .args .text .now in
+    let d = sym (c .before .all-digits .ensures) ∙ c .if3 .taken in
+    record {
+      small = s .pre .small;
+      few = omega (arith, s .pre .few);
+      near = omega arith;
+      right = λ k h. let e : 0 + k ≡ k = omega arith in rw e (every-at (length t) (digitAt (s .args .base) t) d k h);
+    }
 
 pub number-in-spec : {M : Type 1} → statement M
 number-in-spec =

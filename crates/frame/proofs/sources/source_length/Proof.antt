@@ -3,13 +3,14 @@ use mathlib.Core.Path.{_≡_, sym, ap, _∙_}
 use Prim.Native.Nat.{_+_, _*_, _-_, _≤_}
 use native.Mathlib.Omega.{arith}
 use borrow.Author.Needs.{needs}
+use Rattle.plan.specs.Sizes.{slotOctets}
 use Rattle.frame.specs.Frames.{sourceFrom}
 use Rattle.frame.specs.FrameLaws.{sourceFrom-none, sourceFrom-more, octets-few}
 use Rattle.frame.proofs.sources.source_length.Statement.{statement}
 use Rattle.frame.proofs.sources.source_length.Tie as tie
 
 abbrev Inv-loop : tie.InvT-loop
-Inv-loop plan sum₀ k₀ sum k = (k ≤ 120) × (sum ≤ 5610 * k) × (sum ≡ sourceFrom plan k)
+Inv-loop plan sum₀ k₀ sum k = (k ≤ 120) × (sum ≤ slotOctets * k) × (sum ≡ sourceFrom plan k)
 
 abbrev μ-loop : tie.MeasureT-loop
 μ-loop plan sum₀ k₀ sum k = 120 - k
@@ -17,7 +18,7 @@ abbrev μ-loop : tie.MeasureT-loop
 loop-holds : tie.Need-loop-holds Inv-loop μ-loop
 loop-holds c = (omega arith, omega arith, sym (sourceFrom-none (c .args .plan)))
 
-few : (c : tie.After-slot-octets Inv-loop μ-loop) → c .slot-octets .result ≤ 5610
+few : (c : tie.After-slot-octets Inv-loop μ-loop) → c .slot-octets .result ≤ slotOctets
 few c = omega (arith, c .slot-octets .ensures, octets-few (c .before .before .before .args .plan) (c .before .before .loop .k + 1))
 
 loop-again : tie.Need-loop-again Inv-loop μ-loop

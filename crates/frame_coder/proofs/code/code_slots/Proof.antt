@@ -12,6 +12,7 @@ use Rattle.lists.specs.FillingLaws.{filling-none, filling-rest, filling-part, f
 use Rattle.plan.specs.declared.Plan.{Plan}
 use Rattle.plan.specs.declared.FrameState.{FrameState}
 use Rattle.plan.specs.declared.Answer.{Answer}
+use Rattle.plan.specs.Sizes.{slotOctets}
 use Rattle.plan.specs.States.{opened}
 use Rattle.plan.specs.StateLaws.{open-sound}
 use Rattle.frame.specs.Steps.{codedAt, stateAfter}
@@ -28,7 +29,7 @@ record Inv (p : Plan) (mask start : ℕ) (ts source found area : List ℕ) (s : 
   few : k ≤ 120
   state-is : s ≡ stateBefore p mask start k
   from-is : from ≡ sourceFrom p k
-  filling : Filling (frameOf p ts mask start source found) found (5610 * k) area
+  filling : Filling (frameOf p ts mask start source found) found (slotOctets * k) area
 
 module _ {p : Plan} {mask start : ℕ} {ts ends source found : List ℕ} (q : Framed p mask start ts ends source found) where
   abbrev goal : List ℕ
@@ -55,10 +56,10 @@ module _ {p : Plan} {mask start : ℕ} {ts ends source found : List ℕ} (q : Fr
     source-part : part from (from + n) source ≡ sourceIn p source k
     source-part = rw (to-is, i .from-is)
 
-    area-part : part (5610 * k) (5610 * (k + 1)) area ≡ slotIn found k
-    area-part = ap (take (5610 * (k + 1) - 5610 * k)) (filling-rest goal found (5610 * k) area (i .filling))
+    area-part : part (slotOctets * k) (slotOctets * (k + 1)) area ≡ slotIn found k
+    area-part = ap (take (slotOctets * (k + 1) - slotOctets * k)) (filling-rest goal found (slotOctets * k) area (i .filling))
 
-    coding : Coding s ts ends (part from (from + n) source) (part (5610 * k) (5610 * (k + 1)) area)
+    coding : Coding s ts ends (part from (from + n) source) (part (slotOctets * k) (slotOctets * (k + 1)) area)
     coding =
         rw (i .state-is, source-part, area-part)
         (record {
@@ -66,8 +67,8 @@ module _ {p : Plan} {mask start : ℕ} {ts ends source found : List ℕ} (q : Fr
           coded-long = length-slotIn found k (q .lent .frame-long) h;
         })
 
-    more : {r : FrameState} {ys : List ℕ} → r ≡ stateAfter s → ys ≡ codedAt s ts (part from (from + n) source) (part (5610 * k) (5610 * (k + 1)) area)
-        → Inv p mask start ts source found (putMid (5610 * k) (5610 * (k + 1) - 5610 * k) area ys) r (from + n) (k + 1)
+    more : {r : FrameState} {ys : List ℕ} → r ≡ stateAfter s → ys ≡ codedAt s ts (part from (from + n) source) (part (slotOctets * k) (slotOctets * (k + 1)) area)
+        → Inv p mask start ts source found (putMid (slotOctets * k) (slotOctets * (k + 1) - slotOctets * k) area ys) r (from + n) (k + 1)
     more {ys = ys} u v =
         let d : ys ≡ slotIn goal k
         = v ∙ rw (i .state-is, source-part, area-part) (sym (slot-at p ts mask start source found (q .lent .frame-long) k h)) in
@@ -75,7 +76,7 @@ module _ {p : Plan} {mask start : ℕ} {ts ends source found : List ℕ} (q : Fr
           few = omega arith;
           state-is = u ∙ ap stateAfter (i .state-is) ∙ state-more p mask start k;
           from-is = to-is;
-          filling = filling-part goal found (5610 * k) area (i .filling) (5610 * (k + 1)) ys (omega arith) (omega (arith, q .lent .frame-long)) d;
+          filling = filling-part goal found (slotOctets * k) area (i .filling) (slotOctets * (k + 1)) ys (omega arith) (omega (arith, q .lent .frame-long)) d;
         }
 
 abbrev Inv-loop : tie.InvT-loop
@@ -97,7 +98,7 @@ slot-octets-requires c κs =
 lies : (c : tie.After-slot-octets Inv-loop μ-loop)
     → let l = c .before .before .loop in
     let a = c .before .before .before .before .before .before .before .before .before .args in
-    (l .from + c .slot-octets .result ≤ length (a .source .now)) × (5610 * (l .k + 1) ≤ length (l .frame))
+    (l .from + c .slot-octets .result ≤ length (a .source .now)) × (slotOctets * (l .k + 1) ≤ length (l .frame))
 lies c =
     let l = c .before .before .loop in
     let s = c .before .before .before .before .before .before .before .before .before in (
@@ -124,7 +125,7 @@ returns : tie.Need-returns Inv-loop μ-loop
 returns c =
     let l = c .before .loop in
     let s = c .before .before .before .before .before .before .before .before in
-    filling-all _ _ (5610 * l .k) (l .frame) (l .inv .filling) (omega (arith, c .loop-test .left, s .pre .lent .frame-long))
+    filling-all _ _ (slotOctets * l .k) (l .frame) (l .inv .filling) (omega (arith, c .loop-test .left, s .pre .lent .frame-long))
 
 pub code-slots-spec : {M : Type 1} → statement M
 code-slots-spec =

@@ -11,9 +11,9 @@ use Rattle.lists.specs.Filling.{Filling}
 use Rattle.lists.specs.FillingLaws.{filling-none, filling-rest, filling-more, filling-part, filling-all}
 use Rattle.plan.specs.declared.Plan.{Plan}
 use Rattle.plan.specs.declared.FrameState.{FrameState}
+use Rattle.plan.specs.Sizes.{slotOctets}
 use Rattle.plan.specs.States.{opened}
 use Rattle.plan.specs.StateLaws.{open-sound}
-use Rattle.slot.specs.Slots.{slotOctets}
 use Rattle.frame.specs.Steps.{answerAt, readAt, stateAfter}
 use Rattle.frame.specs.Frames.{stateBefore, slotIn, octetsOfSlot, sourceFrom, sourceIn, answersOf, sourcesOf}
 use Rattle.frame.specs.FrameLaws.{sourceFrom-none, sourceFrom-more, sourceFrom-mono, first-state, state-more, length-slotIn, length-sourcesOf, length-answersOf, answer-at, source-at}

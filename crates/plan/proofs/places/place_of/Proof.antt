@@ -4,9 +4,8 @@ use Prim.Native.Nat.{ℕ, _+_, _-_, _≤_, _<_}
 use native.Mathlib.Decide.{decLt}
 use native.Mathlib.Omega.{arith}
 use borrow.Author.Needs.{needs}
-use native.Mathlib.Nat.{mul-le-mul-left}
 use Rattle.plan.specs.declared.Plan.{Plan}
-use Rattle.plan.specs.Plans.{slotsOf, slotsBefore, dataSlotsOf}
+use Rattle.plan.specs.Plans.{slotsBefore}
 use Rattle.plan.specs.PlanLaws.{Accepted, accepted, before-none, before-more, before-mono}
 use Rattle.plan.specs.Places.{groupAt, carries, placeOf}
 use Rattle.plan.specs.PlaceLaws.{group-is}
@@ -72,23 +71,20 @@ loop-again c =
     let e : l .end + c .index2 .result ≡ slotsBefore p (l .g + 1 + 1) = omega arith in
     record { group = n; few = l .inv .few; begins = l .inv .ends; ends = e; ahead = search needs; long = search needs; small = omega arith }
 
-mul-filled : tie.Need-mul-filled Inv-loop μ-loop
-mul-filled c =
-    let l = c .before .before .before .loop in
-    let h : c .index3 .result ≤ 65536 = omega arith in
-    omega (arith, mul-le-mul-left (l .end - l .passed) h)
+data-slots-requires : tie.Need-data-slots-requires Inv-loop μ-loop
+data-slots-requires c κs = omega (arith, c .before .loop .inv .group, c .before .loop .inv .few)
 
 returns : tie.Need-returns Inv-loop μ-loop
-unfolding placeOf carries dataSlotsOf
+unfolding placeOf carries
 returns c =
-    let b = c .before .before .before .before in
+    let d = c .before .before in
+    let b = d .before .before in
     let s = b .before .before .before in
     let p = s .args .t1 in
     let l = b .loop in
     let e : groupAt p (s .args .slot) ≡ l .g
     = group-is p (l .g) (s .args .slot) (record { group = l .inv .group; from = omega arith; to = omega arith }) in
-    let n : slotsOf p (l .g) ≡ l .end - l .passed = omega (arith, before-more p (l .g)) in
-    rw (e, ← l .inv .begins, n, c .before .index3 .ensures .0)
+    rw (e, ← l .inv .begins, d .data-slots .ensures)
 
 pub place-of-spec : {M : Type 1} → statement M
-place-of-spec = tie.close (tie.spec Inv-loop μ-loop (λ c. search needs) (λ c κs. search needs) loop-holds (λ c. search needs) (λ c. search needs) there (λ c κs. search needs) (λ c. search needs) (λ c. search needs) loop-again (λ c. search needs) (λ c. search needs) (λ c. search needs) (λ c κs. search needs) mul-filled (λ c. search needs) (λ c. search needs) (λ c. search needs) (λ c. search needs) returns)
+place-of-spec = tie.close (tie.spec Inv-loop μ-loop (λ c. search needs) (λ c κs. search needs) loop-holds (λ c. search needs) (λ c. search needs) there (λ c κs. search needs) (λ c. search needs) (λ c. search needs) loop-again data-slots-requires (λ c. search needs) (λ c. search needs) (λ c. search needs) (λ c. search needs) (λ c. search needs) (λ c. search needs) returns)

@@ -11,8 +11,9 @@ use lib.Seq.{length-take-le}
 use Rattle.lists.specs.Choice.{pick}
 use Rattle.lists.specs.ChoiceLaws.{then-zero}
 use Rattle.lists.specs.Parts.{put}
+use Rattle.plan.specs.Records.{noPlan}
 use Rattle.plan.specs.Plans.{planNumber}
-use Rattle.plan_text.specs.Reading.{textNumber, readNumber, planOf, noPlan, planRead}
+use Rattle.plan_text.specs.Reading.{textNumber, readNumber, planOf, planRead}
 use Rattle.plan_text.specs.Listing.{listText, answerText}
 use Rattle.plan_text.specs.ListingLaws.{length-answerText}
 use Rattle.plan_text.specs.Needs.{Taken}

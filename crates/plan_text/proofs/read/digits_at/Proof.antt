@@ -3,22 +3,22 @@ use mathlib.Core.Path.{_≡_, sym, ap, _∙_}
 use Prim.Native.Nat.{_+_}
 use borrow.Author.Needs.{needs}
 use lib.ListN.{getD}
-use Rattle.plan_text.specs.Characters.{isDigit}
+use Rattle.plan_text.specs.Numerals.{isDigit}
 use Rattle.plan_text.specs.Reading.{digitsAt}
 use Rattle.plan_text.proofs.read.digits_at.Statement.{statement}
 use Rattle.plan_text.proofs.read.digits_at.Tie as tie
 
-first : (c : tie.After-is-digit) → c .is-digit .result ≡ isDigit (getD (c .before .before .before .args .text .now) (c .before .before .before .args .at) 0)
-first c = c .is-digit .ensures ∙ ap isDigit (c .before .octet-at .ensures)
+first : (c : tie.After-is-digit) → c .is-digit .result ≡ isDigit 10 (getD (c .before .before .before .args .text .now) (c .before .before .before .args .at) 0)
+first c = c .is-digit .ensures ∙ ap (isDigit 10) (c .before .octet-at .ensures)
 
 second : (c : tie.After-is-digit2)
-    → c .is-digit2 .result ≡ isDigit (getD (c .before .before .before .before .before .before .args .text .now) (c .before .before .before .before .before .before .args .at + 1) 0)
-second c = c .is-digit2 .ensures ∙ ap isDigit (c .before .octet-at2 .ensures)
+    → c .is-digit2 .result ≡ isDigit 10 (getD (c .before .before .before .before .before .before .args .text .now) (c .before .before .before .before .before .before .args .at + 1) 0)
+second c = c .is-digit2 .ensures ∙ ap (isDigit 10) (c .before .octet-at2 .ensures)
 
 third : (c : tie.After-is-digit3)
     → c .is-digit3 .result
-    ≡ isDigit (getD (c .before .before .before .before .before .before .before .before .before .args .text .now) (c .before .before .before .before .before .before .before .before .before .args .at + 2) 0)
-third c = c .is-digit3 .ensures ∙ ap isDigit (c .before .octet-at3 .ensures)
+    ≡ isDigit 10 (getD (c .before .before .before .before .before .before .before .before .before .args .text .now) (c .before .before .before .before .before .before .before .before .before .args .at + 2) 0)
+third c = c .is-digit3 .ensures ∙ ap (isDigit 10) (c .before .octet-at3 .ensures)
 
 returns : tie.Need-returns
 unfolding digitsAt

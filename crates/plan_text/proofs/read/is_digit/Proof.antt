@@ -1,13 +1,13 @@
--- `plan_text::is_digit`: the two tests are those of the definition.
-use borrow.Author.Tests.{le-leb, lt-leb}
+-- `plan_text::is_digit`: the test is that of the definition.
+use mathlib.Core.Path.{ap}
+use Prim.Native.Nat.{ℕ}
+use borrow.Author.Needs.{needs}
+use lib.Dec.{ltb}
 use Rattle.plan_text.proofs.read.is_digit.Statement.{statement}
 use Rattle.plan_text.proofs.read.is_digit.Tie as tie
 
 returns : tie.Need-returns
-returns c = rw (lt-leb 48 (c .before .args .c) (c .if1 .taken))
-
-returns-2 : tie.Need-returns-2
-returns-2 c = rw (le-leb 48 (c .before .args .c) (c .if1 .left))
+returns c = ap (λ (n : ℕ). ltb n 10) (c .digit .ensures)
 
 pub is-digit-spec : {M : Type 1} → statement M
-is-digit-spec = tie.close (tie.spec returns returns-2)
+is-digit-spec = tie.close (tie.spec (λ c κs. search needs) returns)

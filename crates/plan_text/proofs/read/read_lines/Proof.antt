@@ -88,12 +88,13 @@ returns-2 c =
 returns-3 : tie.Need-returns-3 Inv-loop μ-loop
 unfolding planOf
 returns-3 c =
-    let l = c .before .loop in
-    let s = c .before .before .before in
+    let o = c .before in
+    let l = o .before .loop in
+    let s = o .before .before .before in
     let t = s .args .text .now in
-    let z = passed-ends t (l .count) (l .at) (l .inv .lines) (c .loop-test .left) (s .pre) in
-    let n = passed-all t (l .count) (l .at) (l .inv .lines) (c .loop-test .left) in
-    rw (z, n, ← l .inv .first, ← l .inv .second, ← l .inv .third)
+    let z = passed-ends t (l .count) (l .at) (l .inv .lines) (o .loop-test .left) (s .pre) in
+    let n = passed-all t (l .count) (l .at) (l .inv .lines) (o .loop-test .left) in
+    rw (z, n, ← l .inv .first, ← l .inv .second, ← l .inv .third, c .of-columns .ensures)
 
 pub read-lines-spec : {M : Type 1} → statement M
-read-lines-spec = tie.close (tie.spec Inv-loop μ-loop loop-holds (λ c κs. search needs) returns (λ c κs. search needs) (λ c κs. search needs) (λ c. search needs) (λ c. search needs) (λ c. search needs) (λ c. search needs) (λ c. search needs) (λ c. search needs) (λ c. search needs) loop-less loop-again (λ c κs. search needs) returns-2 returns-3)
+read-lines-spec = tie.close (tie.spec Inv-loop μ-loop loop-holds (λ c κs. search needs) returns (λ c κs. search needs) (λ c κs. search needs) (λ c. search needs) (λ c. search needs) (λ c. search needs) (λ c. search needs) (λ c. search needs) (λ c. search needs) (λ c. search needs) loop-less loop-again (λ c κs. search needs) returns-2 (λ c κs. search needs) returns-3)

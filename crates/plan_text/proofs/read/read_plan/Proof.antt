@@ -9,9 +9,10 @@ use lib.ListN.{length}
 use lib.Dec.{eqb}
 use Rattle.lists.specs.Choice.{pick}
 use Rattle.lists.specs.ChoiceLaws.{then-first, then-next}
+use Rattle.plan.specs.Records.{noPlan}
 use Rattle.plan.specs.Plans.{planNumber}
 use Rattle.plan_text.specs.declared.PlanRead.{PlanRead}
-use Rattle.plan_text.specs.Reading.{textNumber, readNumber, planOf, noPlan, readAs, planRead}
+use Rattle.plan_text.specs.Reading.{textNumber, readNumber, planOf, readAs, planRead}
 use Rattle.plan_text.proofs.read.read_plan.Statement.{statement}
 use Rattle.plan_text.proofs.read.read_plan.Tie as tie
 

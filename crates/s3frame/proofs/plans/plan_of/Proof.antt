@@ -15,20 +15,22 @@ short : (n : ℕ) → lengthOk n ≡ true → n ≤ 24
 unfolding lengthOk
 short n h = leb-true n 24 (and-left (leb n 24) _ (and-right (leb 1 n) _ h))
 
-cast-t9 : tie.Need-cast-t9
-cast-t9 c =
+cast-of-columns : tie.Need-cast-of-columns
+cast-of-columns c =
     let b = c .before .before .before in
     omega (arith, short _ (sym (b .before .length-ok .ensures) ∙ b .if1 .taken))
 
 returns : tie.Need-returns
 unfolding planOf
 returns c =
-    let b = c .before .before .before in
-    rw (← b .before .length-ok .ensures, b .if1 .taken, c .before .before .column-of .ensures, c .before .column-of2 .ensures, c .column-of3 .ensures)
+    let d = c .before in
+    let b = d .before .before .before in
+    c .of-columns .ensures
+    ∙ rw (← b .before .length-ok .ensures, b .if1 .taken, d .before .before .column-of .ensures, d .before .column-of2 .ensures, d .column-of3 .ensures)
 
 returns-2 : tie.Need-returns-2
 unfolding planOf
-returns-2 c = rw (← c .before .length-ok .ensures, c .if1 .left)
+returns-2 c = c .no-plan .ensures ∙ rw (← c .before .before .length-ok .ensures, c .before .if1 .left)
 
 pub plan-of-spec : {M : Type 1} → statement M
 plan-of-spec =
@@ -38,6 +40,8 @@ plan-of-spec =
     (λ c κs. search needs)
     (λ c κs. search needs)
     (λ c κs. search needs)
-    cast-t9
+    cast-of-columns
+    (λ c κs. search needs)
     returns
+    (λ c κs. search needs)
     returns-2)

@@ -5,9 +5,10 @@ use borrow.Author.Needs.{needs}
 use Rattle.lists.specs.Choice.{andThen}
 use Rattle.lists.specs.ChoiceLaws.{then-zero}
 use Rattle.slot.specs.Calls.{dataNumber}
+use Rattle.plan.specs.Records.{stateAt}
 use Rattle.s3frame.specs.Narrow.{narrowed}
 use Rattle.s3frame.specs.Plans.{planOf}
-use Rattle.s3frame.specs.Calls.{stateOf, nextNumber}
+use Rattle.s3frame.specs.Calls.{nextNumber}
 use Rattle.s3frame.specs.CallLaws.{next-two, code-refused, code-good, code-given}
 use Rattle.s3frame.proofs.slots.s3_code_slot.Statement.{statement}
 use Rattle.s3frame.proofs.slots.s3_code_slot.Tie as tie
@@ -15,7 +16,7 @@ use Rattle.s3frame.proofs.slots.s3_code_slot.Tie as tie
 -- the number of the place and of `next`
 number : (c : tie.After-with-next)
     → let a = c .before .before .before .before .before .before .before .before .before .args in
-    c .with-next .result ≡ andThen (dataNumber (stateOf (planOf (a .plan .now)) (a .mask) (a .start) (narrowed (a .slot)) (a .register))) (nextNumber (a .next .now))
+    c .with-next .result ≡ andThen (dataNumber (stateAt (planOf (a .plan .now)) (a .mask) (a .start) (narrowed (a .slot)) (a .register))) (nextNumber (a .next .now))
 number c =
     let a = c .before .before .before .before .before .before .before .before .before .args in
     let d = c .before .before in
@@ -23,7 +24,7 @@ number c =
 
 none : (c : tie.Else1)
     → let a = c .before .before .before .before .before .before .before .before .before .before .args in
-    andThen (dataNumber (stateOf (planOf (a .plan .now)) (a .mask) (a .start) (narrowed (a .slot)) (a .register))) (nextNumber (a .next .now)) ≡ 0
+    andThen (dataNumber (stateAt (planOf (a .plan .now)) (a .mask) (a .start) (narrowed (a .slot)) (a .register))) (nextNumber (a .next .now)) ≡ 0
 none c = sym (number (c .before)) ∙ c .if1 .left
 
 returns : tie.Need-returns

@@ -4,10 +4,11 @@ use borrow.Author.Needs.{needs}
 use Rattle.lists.specs.Choice.{andThen}
 use Rattle.lists.specs.ChoiceLaws.{then-zero}
 use Rattle.refusal.specs.AnswerLaws.{refused, accepted}
+use Rattle.plan.specs.Records.{stateAt}
 use Rattle.plan.specs.States.{passNumber, passed}
 use Rattle.s3frame.specs.Narrow.{narrowed}
 use Rattle.s3frame.specs.Plans.{planOf}
-use Rattle.s3frame.specs.Calls.{stateOf, nextNumber, passCall}
+use Rattle.s3frame.specs.Calls.{nextNumber, passCall}
 use Rattle.s3frame.specs.CallLaws.{next-two, pass-given, pass-good}
 use Rattle.s3frame.proofs.states.s3_pass.Statement.{statement}
 use Rattle.s3frame.proofs.states.s3_pass.Tie as tie
@@ -15,12 +16,12 @@ use Rattle.s3frame.proofs.states.s3_pass.Tie as tie
 -- the call's answer, and its number with that of the area
 answer : (c : tie.After-pass)
     → let a = c .before .before .before .before .args in
-    c .pass .result ≡ passed (stateOf (planOf (a .plan .now)) (a .mask) (a .start) (narrowed (a .slot)) (a .register))
+    c .pass .result ≡ passed (stateAt (planOf (a .plan .now)) (a .mask) (a .start) (narrowed (a .slot)) (a .register))
 answer c = rw (c .before .state-of .ensures) at (c .pass .ensures)
 
 number : (c : tie.After-with-next)
     → let a = c .before .before .before .before .before .before .args in
-    c .with-next .result ≡ passCall (stateOf (planOf (a .plan .now)) (a .mask) (a .start) (narrowed (a .slot)) (a .register)) (a .next .now)
+    c .with-next .result ≡ passCall (stateAt (planOf (a .plan .now)) (a .mask) (a .start) (narrowed (a .slot)) (a .register)) (a .next .now)
 unfolding passed passCall
 number c =
     let a = c .before .before .before .before .before .before .args in

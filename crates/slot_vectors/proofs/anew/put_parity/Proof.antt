@@ -5,6 +5,7 @@ use native.Mathlib.Omega.{arith}
 use borrow.Author.Needs.{needs}
 use lib.ListN.{length-replicate}
 use Rattle.ldpc.specs.Needs.{Rows}
+use Rattle.plan.specs.Sizes.{slotBits}
 use Rattle.plan.specs.RateLaws.{rows-most}
 use Rattle.slot_vectors.proofs.anew.put_parity.Statement.{statement}
 use Rattle.slot_vectors.proofs.anew.put_parity.Tie as tie
@@ -22,8 +23,8 @@ remake-requires c κs =
       rate = some-rows (c .before .before .before .before .before);
       accepted = sym (c .before .before .before .before .table-ok .ensures) ∙ c .before .before .before .if2 .taken;
       coded-long = search needs;
-      bits-long = length-replicate {A = ℕ} 44880 0;
-      sums-long = length-replicate {A = ℕ} 44880 0;
+      bits-long = length-replicate {A = ℕ} slotBits 0;
+      sums-long = length-replicate {A = ℕ} slotBits 0;
     }
 
 pub put-parity-spec : {M : Type 1} → statement M

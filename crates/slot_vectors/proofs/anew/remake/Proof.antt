@@ -12,6 +12,7 @@ use Rattle.lists.specs.RunLaws.{below-take, below-drop, below-append}
 use Rattle.bits.specs.OctetLaws.{bitsOf-bits}
 use Rattle.ldpc.specs.Tables.{positions}
 use Rattle.ldpc.specs.ParityLaws.{length-parityOf, parityOf-bits}
+use Rattle.plan.specs.Sizes.{slotBits}
 use Rattle.slot_vectors.proofs.anew.remake.Statement.{statement}
 use Rattle.slot_vectors.proofs.anew.remake.Tie as tie
 
@@ -26,7 +27,7 @@ copied-bits : (c : tie.After-copy) → Bits (c .copy .last .1 .0)
 copied-bits c =
     let p = c .before .before .before .before .before .before in
     let s = p .before .before .before .before .before .before .before .before .before .before .before .before .before in
-    let n = 44880 - 374 * s .args .rows - 0 in
+    let n = slotBits - 374 * s .args .rows - 0 in
     let made = p .parity .last .1 .1 .1 .0 in
     let long : length made ≡ n = search needs in
     let is : c .copy .last .1 .0 ≡ made = c .copy .ensures ∙ take-at made (postOf 0 n (s .args .sums .now)) n long in
@@ -40,7 +41,7 @@ collect-requires c κs =
     let all : Bits (e .expand .last .1 .0) = rw (e .expand .ensures) (bitsOf-bits (s .args .coded .now)) in
     record {
       eights = search needs;
-      bits = bits-put (374 * s .args .rows) (44880 - 374 * s .args .rows) (e .expand .last .1 .0) (y .copy .last .1 .0) all (copied-bits y);
+      bits = bits-put (374 * s .args .rows) (slotBits - 374 * s .args .rows) (e .expand .last .1 .0) (y .copy .last .1 .0) all (copied-bits y);
     }
 
 pub remake-spec : {M : Type 1} → statement M

@@ -3,6 +3,7 @@ use mathlib.Core.Path.{sym, _∙_}
 use Prim.Native.Nat.{ℕ}
 use borrow.Author.Needs.{needs}
 use lib.ListN.{length-replicate}
+use Rattle.plan.specs.Sizes.{blockBits}
 use Rattle.vectors.proofs.anew.put_parity.Statement.{statement}
 use Rattle.vectors.proofs.anew.put_parity.Tie as tie
 
@@ -11,7 +12,7 @@ remake-requires c κs =
     record {
       accepted = sym (c .before .before .before .before .table-ok .ensures) ∙ c .before .before .before .if1 .taken;
       block-long = search needs;
-      bits-long = length-replicate {A = ℕ} 31680 0;
+      bits-long = length-replicate {A = ℕ} blockBits 0;
       input-long = length-replicate {A = ℕ} 22814 0;
     }
 

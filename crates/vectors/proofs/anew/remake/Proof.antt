@@ -11,10 +11,11 @@ use Rattle.lists.specs.RunLaws.{below-take, below-append}
 use Rattle.lists.specs.PartLaws.{put-lent, put-end}
 use Rattle.bits.specs.OctetLaws.{bitsOf-bits}
 use Rattle.ldpc.specs.ParityLaws.{length-parityOf, parityOf-bits}
+use Rattle.plan.specs.Sizes.{blockBits}
 use Rattle.vectors.proofs.anew.remake.Statement.{statement}
 use Rattle.vectors.proofs.anew.remake.Tie as tie
 
-expanded : (c : tie.After-expand) → length (c .expand .last .1 .0) ≡ 31680
+expanded : (c : tie.After-expand) → length (c .expand .last .1 .0) ≡ blockBits
 expanded c = search needs
 
 copy-requires : tie.Need-copy-requires
@@ -59,7 +60,7 @@ collect-requires c κs =
     let x = e .expand .last .1 .0 in
     let long = expanded e in
     let all : Bits x = rw (e .expand .ensures) (bitsOf-bits (s .args .block .now)) in
-    let is = put-lent 9614 31680 x (made p) (omega arith) (made-long p) ∙ put-end 9614 (made p) x (omega (arith, made-long p)) in
+    let is = put-lent 9614 blockBits x (made p) (omega arith) (made-long p) ∙ put-end 9614 (made p) x (omega (arith, made-long p)) in
     record {
       eights = rw is (simp (length-append, length-take) (omega (arith, made-long p, s .pre .block-long)));
       bits = rw is (below-append 1 (take 9614 x) (made p) (below-take 1 9614 x all) (made-bits p));

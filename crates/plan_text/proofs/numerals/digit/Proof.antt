@@ -1,4 +1,4 @@
--- `files::digit`: the three runs of digits, tried one after the other.
+-- `plan_text::digit`: the three runs of digits, tried one after the other.
 use mathlib.Core.Path.{_≡_, sym, _∙_}
 use mathlib.Core.Bool.{Bool, true, false, _&&_}
 use Prim.Native.Nat.{ℕ, _≤_}
@@ -7,9 +7,9 @@ use borrow.Author.Needs.{needs}
 use borrow.Author.Tests.{leb-true}
 use lib.Dec.{leb}
 use Rattle.lists.specs.ChoiceLaws.{and-left}
-use Rattle.files.specs.Texts.{digitOf}
-use Rattle.files.proofs.numbers.digit.Statement.{statement}
-use Rattle.files.proofs.numbers.digit.Tie as tie
+use Rattle.plan_text.specs.Numerals.{digitOf}
+use Rattle.plan_text.proofs.numerals.digit.Statement.{statement}
+use Rattle.plan_text.proofs.numerals.digit.Tie as tie
 
 -- a number in a run is not below it
 not-below : (a b x : ℕ) (r : Bool) → r ≡ (leb a x && leb x b) → r ≡ true → a ≤ x

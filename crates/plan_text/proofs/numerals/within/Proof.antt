@@ -1,8 +1,8 @@
--- `files::within`: the two tests.
+-- `plan_text::within`: the two tests.
 use native.Mathlib.Omega.{arith}
 use borrow.Author.Tests.{le-leb, lt-leb}
-use Rattle.files.proofs.numbers.within.Statement.{statement}
-use Rattle.files.proofs.numbers.within.Tie as tie
+use Rattle.plan_text.proofs.numerals.within.Statement.{statement}
+use Rattle.plan_text.proofs.numerals.within.Tie as tie
 
 returns : tie.Need-returns
 returns c = let a = c .before .args in rw (lt-leb (a .low) (a .x) (c .if1 .taken))
