@@ -11,7 +11,7 @@ use lib.Seq.{length-take-le, getD-take, getD-drop, getD-append-add}
 use Rattle.lists.specs.Count.{sum}
 use Rattle.lists.specs.CountLaws.{sum-add, sum-same, sum-each}
 use Rattle.lists.specs.Parts.{part, put}
-use Rattle.ldpc.specs.Tables.{spacing, positions}
+use Rattle.ldpc.specs.Tables.{spacing}
 use Rattle.ldpc.specs.Parity.{bitTimes, rowTimes}
 use Rattle.ldpc.specs.ParityLaws.{bitTimes-none, bitTimes-more}
 use Rattle.ldpc.specs.Columns.{across, nextPlace, turned, addressTimes}
