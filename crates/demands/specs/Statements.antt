@@ -19,8 +19,7 @@ use Rattle.dispersal.specs.Dispersal.{dispersed}
 use Rattle.bch.specs.Polynomials.{_⊕_, Divides, polynomialOf}
 use Rattle.bch.specs.Bch.{generator, bchBits}
 use Rattle.ldpc.specs.Tables.{positions}
-use Rattle.ldpc.specs.Parity.{position, times, parityOf}
-use Rattle.ldpc.specs.Cases.{OnlyFirst}
+use Rattle.ldpc.specs.Parity.{position, times, parityOf, OnlyFirst}
 use Rattle.plan.specs.declared.Plan.{Plan}
 use Rattle.plan.specs.declared.FrameState.{FrameState}
 use Rattle.plan.specs.Rates.{symbolsOf}

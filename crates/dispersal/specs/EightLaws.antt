@@ -1,15 +1,17 @@
--- Laws of eight steps at a time. A step is linear, so the parts of a register can be stepped each alone, and the results
--- added. The bits given out are the register's own, from the top.
+-- Laws of eight steps at a time. Whether register and mask share an odd number of ones is linear in both, so the feedback
+-- of a later step is that of the register before it, with another mask. The bits given out are the register's own, from
+-- the top.
 use mathlib.Core.Path.{_≡_, refl, sym, ap, ap₂, _∙_}
 use mathlib.Core.List.{List, [], _∷_}
 use Prim.Native.Nat.{ℕ, zero, suc, _+_, _-_, _*_, _/_, _%_, _^_, _≤_, _<_}
-use native.Mathlib.Nat.{add-mul, mul-one, mul-assoc, div-add-mod', mod-lt, mod-eq-of-lt}
+use native.Mathlib.Nat.{mul-one, mul-assoc, mul-right-comm, pow-suc, mul-add-mod-self-right, div-add-mod', mod-lt, mod-eq-of-lt}
+use native.Mathlib.Numerals.{add-one}
 use native.Mathlib.Omega.{arith}
 use lib.Arith.{bin-ind}
-use lib.Bits.{bitAnd, bitXor, and-mod, and-shr, and-mask, and-zero-r, xor-mod, xor-shr, xor-lt, xor-block, xor-shifted, xor-add-and}
+use lib.Bits.{bitAnd, bitXor, and-mod, and-shr, and-mask, and-zero-r, and-comm, and-le-l, xor-shr, xor-lt, xor-add-and}
 use lib.Count.{ones, ones-step, ones-ones}
 use lib.ListN.{length, getD}
-use lib.Pow.{pow-add, pow-mono, pow-pos, shl-lt, shr-shr, field}
+use lib.Pow.{pow-pos, shr-shr, field}
 use Rattle.lists.specs.CountLaws.{length-table, getD-table}
 use Rattle.lists.specs.Parts.{part}
 use Rattle.lists.specs.PartLaws.{length-part}
@@ -17,16 +19,13 @@ use Rattle.bits.specs.Digits.{digits}
 use Rattle.bits.specs.DigitParts.{digits-low, digits-add}
 use Rattle.bits.specs.Sums.{added}
 use Rattle.dispersal.specs.Register.{step, after, top}
-use Rattle.dispersal.specs.RegisterLaws.{step-lt, after-lt, top-lt}
+use Rattle.dispersal.specs.RegisterLaws.{after-none, after-first, step-lt, after-lt, top-lt}
 use Rattle.dispersal.specs.Dispersal.{dispersed}
 use Rattle.dispersal.specs.DispersalLaws.{dispersed-part}
-use Rattle.dispersal.specs.Eights.{five, eightsTable, jumped}
+use Rattle.dispersal.specs.Eights.{drawn, maskAt, masksOf, feedback}
 
 xor-last : (x y : ℕ) → bitXor x y % 2 ≡ (x + y) % 2
 xor-last x y = omega (arith, xor-add-and x y)
-
-xor-bits : (f g : ℕ) → f < 2 → g < 2 → (f + g) % 2 ≡ bitXor f g
-xor-bits f g h l = omega (arith, xor-last f g, xor-lt 1 f g h l)
 
 and-bit : (x b : ℕ) → b < 2 → bitAnd (x % 2) b ≡ x % 2 * b
 and-bit x zero h = and-zero-r (x % 2) ∙ omega arith
@@ -61,77 +60,125 @@ odd-xor =
     ∙ odd-sum (x % 2) (y % 2) (bitXor x y % 2) (m % 2) _ _ _ (omega arith) (omega (arith, xor-last x y)) h
     ∙ ap₂ (λ (n k : ℕ). (n + k) % 2) (sym (shared-step x m)) (sym (shared-step y m)))
 
--- so is a step, and so are several
-step-xor : (w mask x y : ℕ) → step w mask (bitXor x y) ≡ bitXor (step w mask x) (step w mask y)
-unfolding step
-step-xor w mask x y =
-    let f = ones (bitAnd x mask) % 2 in
-    let g = ones (bitAnd y mask) % 2 in
-    let o : ones (bitAnd (bitXor x y) mask) % 2 ≡ bitXor f g = omega (arith, odd-xor x y mask, xor-bits f g (omega arith) (omega arith)) in
-    ap (λ (z : ℕ). (bitXor x y * 2 + z) % 2 ^ w) o
-    ∙ ap (λ (z : ℕ). z % 2 ^ w) (sym (xor-block 1 x y f g (omega arith) (omega arith)))
-    ∙ xor-mod (x * 2 + f) (y * 2 + g) w
+-- and in the mask
+odd-mask : (r x y : ℕ) → ones (bitAnd r (bitXor x y)) % 2 ≡ (ones (bitAnd r x) + ones (bitAnd r y)) % 2
+odd-mask r x y = rw (and-comm r (bitXor x y), and-comm r x, and-comm r y) (odd-xor x y r)
 
-after-xor : (w mask x y n : ℕ) → after w mask (bitXor x y) n ≡ bitXor (after w mask x n) (after w mask y n)
-unfolding after
-after-xor w mask x y zero = refl
-after-xor w mask x y (suc n) = ap (step w mask) (after-xor w mask x y n) ∙ step-xor w mask (after w mask x n) (after w mask y n)
+-- a mask counts only as far as the register goes
+and-cut : (w x m : ℕ) → x < 2 ^ w → bitAnd x (m % 2 ^ w) ≡ bitAnd x m
+and-cut w x m h =
+    let l : bitAnd x m < 2 ^ w = omega (arith, and-le-l x m) in
+    ap (λ (y : ℕ). bitAnd y (m % 2 ^ w)) (sym (mod-eq-of-lt h)) ∙ sym (and-mod x m w) ∙ mod-eq-of-lt l
 
--- the lowest five bits and those above them
-halves : (k x : ℕ) → x * 2 ^ k ≡ bitXor (x / 32 * 2 ^ (5 + k)) (x % 32 * 2 ^ k)
-halves k x =
-    sym
-    (xor-shifted (x / 32) (5 + k) (x % 32 * 2 ^ k) (shl-lt 5 k (omega arith))
-    ∙ ap (λ (p : ℕ). x / 32 * p + x % 32 * 2 ^ k) (pow-add 2 5 k)
-    ∙ ap (λ (z : ℕ). z + x % 32 * 2 ^ k) (sym (mul-assoc (x / 32) 32 (2 ^ k)))
-    ∙ sym (add-mul (x / 32 * 32) (x % 32) (2 ^ k))
-    ∙ ap (λ (z : ℕ). z * 2 ^ k) (div-add-mod' x 32))
+-- the feedback alone, where the mask drawn back has a lowest bit
+fed-back : (r mask b p : ℕ) → b < 2 → (ones (bitAnd r mask) % 2 * b + p) % 2 ≡ (p + ones (bitAnd r (b * mask))) % 2
+fed-back r mask zero p h = let e : zero * mask ≡ 0 = omega arith in rw (e, and-zero-r r) (omega (arith, ones-ones 0))
+fed-back r mask (suc zero) p h = let e : 1 * mask ≡ mask = omega arith in rw e (omega arith)
+fed-back r mask (suc (suc b)) p h = absurd (omega arith)
 
-pub five-lt : (w n : ℕ) → five w n < 2 ^ w
-unfolding five
-five-lt w n = mod-lt _ (pow-pos w)
+-- the ones shared with a mask after a step are those shared before it with the mask drawn back
+odd-step : (w mask r m : ℕ) → m < 2 ^ w → ones (bitAnd (step w mask r) m) % 2 ≡ ones (bitAnd r (drawn mask m)) % 2
+unfolding step drawn
+odd-step w mask r m h =
+    let f = ones (bitAnd r mask) % 2 in
+    let a : bitAnd ((r * 2 + f) % 2 ^ w) m ≡ bitAnd (r * 2 + f) m
+    = and-comm _ m ∙ and-cut w m (r * 2 + f) h ∙ and-comm m _ in
+    let b : (r * 2 + f) % 2 ≡ f = omega arith in
+    let c : (r * 2 + f) / 2 ≡ r = omega arith in
+    ap (λ (x : ℕ). ones x % 2) a
+    ∙ ap (λ (x : ℕ). x % 2) (shared-step (r * 2 + f) m)
+    ∙ ap₂ (λ (x y : ℕ). (x * (m % 2) + ones (bitAnd y (m / 2))) % 2) b c
+    ∙ fed-back r mask (m % 2) (ones (bitAnd r (m / 2))) (omega arith)
+    ∙ sym (odd-mask r (m / 2) (m % 2 * mask))
 
-pub length-eights : (w mask : ℕ) → length (eightsTable w mask) ≡ 160
-unfolding eightsTable
-length-eights w mask = length-table 160 (λ n. after w mask (five w n) 8)
+bit-le : (b x : ℕ) → b < 2 → b * x ≤ x
+bit-le zero x h = omega arith
+bit-le (suc zero) x h = omega arith
+bit-le (suc (suc b)) x h = absurd (omega arith)
 
-pub eights-at : (w mask n : ℕ) → n < 160 → getD (eightsTable w mask) n 0 ≡ after w mask (five w n) 8
-unfolding eightsTable
-eights-at w mask n h = getD-table 160 (λ k. after w mask (five w k) 8) n h
+-- what the product of the lowest bit and the mask keeps below
+pub drawn-part : (m mask : ℕ) → m % 2 * mask ≤ mask
+drawn-part m mask = bit-le (m % 2) mask (omega arith)
 
--- what the table has for v at the place j
-entry-at : (w mask j v : ℕ) → j < 5 → v < 32 → v * 2 ^ (j * 5) < 2 ^ w → getD (eightsTable w mask) (j * 32 + v) 0 ≡ after w mask (v * 2 ^ (j * 5)) 8
-unfolding five
-entry-at w mask j v hj hv h =
-    let a : (j * 32 + v) % 32 ≡ v = omega arith in
-    let b : (j * 32 + v) / 32 ≡ j = omega arith in
-    eights-at w mask (j * 32 + v) (omega arith)
-    ∙ ap (λ (r : ℕ). after w mask r 8) (rw (a, b) (mod-eq-of-lt h))
+pub mask-none : (mask : ℕ) → maskAt mask 0 ≡ mask
+unfolding maskAt
+mask-none mask = refl
 
--- a register without its k lowest bits, eight steps on: a is that of the bits above the next five, b that of those five
-one-more : (w mask r k a b : ℕ) → a ≡ after w mask (r / 2 ^ (5 + k) * 2 ^ (5 + k)) 8 → b ≡ after w mask (r / 2 ^ k % 32 * 2 ^ k) 8
-    → bitXor a b ≡ after w mask (r / 2 ^ k * 2 ^ k) 8
-one-more w mask r k a b p q =
-    let c : k + 5 ≡ 5 + k = omega arith in
-    let d : r / 2 ^ k / 32 ≡ r / 2 ^ (5 + k) = rw c at (shr-shr r k 5) in
-    ap₂ bitXor p q
-    ∙ sym (after-xor w mask (r / 2 ^ (5 + k) * 2 ^ (5 + k)) (r / 2 ^ k % 32 * 2 ^ k) 8)
-    ∙ ap (λ (x : ℕ). after w mask x 8) (sym (halves k (r / 2 ^ k) ∙ ap (λ (x : ℕ). bitXor (x * 2 ^ (5 + k)) (r / 2 ^ k % 32 * 2 ^ k)) d))
+pub mask-more : (mask n : ℕ) → maskAt mask (n + 1) ≡ bitXor (maskAt mask n / 2) (maskAt mask n % 2 * mask)
+unfolding maskAt drawn
+mask-more mask n = rw add-one
 
--- the entries of a register's five places, added, are the register eight steps on
-pub jumped-is : (w mask r : ℕ) → w ≤ 25 → r < 2 ^ w → jumped (eightsTable w mask) r ≡ after w mask r 8
-unfolding jumped
-jumped-is w mask r hw hr =
-    let s : 2 ^ w ≤ 33554432 = pow-mono hw in
-    let more = one-more w mask r in
-    let entry = entry-at w mask in
-    let z : r % 32 ≡ 0 * 32 + r / 2 ^ 0 % 32 = omega arith in
-    let e₀ = ap (λ (i : ℕ). getD (eightsTable w mask) i 0) z ∙ entry 0 (r / 2 ^ 0 % 32) (omega arith) (omega arith) (omega arith) in
-    let e₁ = entry 1 (r / 2 ^ 5 % 32) (omega arith) (omega arith) (omega arith) in
-    let e₂ = entry 2 (r / 2 ^ 10 % 32) (omega arith) (omega arith) (omega arith) in
-    let e₃ = entry 3 (r / 2 ^ 15 % 32) (omega arith) (omega arith) (omega arith) in
-    let e₄ = entry 4 (r / 2 ^ 20) (omega arith) (omega arith) (omega arith) in
-    more 0 _ _ (more 5 _ _ (more 10 _ _ (more 15 _ _ e₄ e₃) e₂) e₁) e₀ ∙ ap (λ (x : ℕ). after w mask x 8) (omega arith)
+pub mask-lt : (w mask n : ℕ) → mask < 2 ^ w → maskAt mask n < 2 ^ w
+unfolding maskAt drawn
+mask-lt w mask zero h = h
+mask-lt w mask (suc n) h =
+    let m = maskAt mask n in
+    xor-lt w (m / 2) (m % 2 * mask) (omega (arith, mask-lt w mask n h)) (omega (arith, drawn-part m mask))
+
+-- the feedback n steps on
+odd-after : (w mask r n : ℕ) → mask < 2 ^ w → ones (bitAnd (after w mask r n) mask) % 2 ≡ ones (bitAnd r (maskAt mask n)) % 2
+unfolding maskAt
+odd-after w mask r zero h = ap (λ (x : ℕ). ones (bitAnd x mask) % 2) (after-none w mask r)
+odd-after w mask r (suc n) h =
+    let e : after w mask r (suc n) ≡ after w mask (step w mask r) n = rw add-one at (after-first w mask r n) in
+    ap (λ (x : ℕ). ones (bitAnd x mask) % 2) e
+    ∙ odd-after w mask (step w mask r) n h
+    ∙ odd-step w mask r (maskAt mask n) (mask-lt w mask n h)
+
+-- the mask cut to the width steps as the mask does
+after-cut : (w mask r n : ℕ) → r < 2 ^ w → after w (mask % 2 ^ w) r n ≡ after w mask r n
+unfolding after step
+after-cut w mask r zero h = refl
+after-cut w mask r (suc n) h =
+    let s = after w mask r n in
+    ap (step w (mask % 2 ^ w)) (after-cut w mask r n h)
+    ∙ ap (λ (x : ℕ). (s * 2 + ones x % 2) % 2 ^ w) (and-cut w s mask (after-lt w mask r n h))
+
+pub length-masks : (w mask : ℕ) → length (masksOf w mask) ≡ 8
+unfolding masksOf
+length-masks w mask = length-table 8 (maskAt (mask % 2 ^ w))
+
+pub masks-at : (w mask n : ℕ) → n < 8 → getD (masksOf w mask) n 0 ≡ maskAt (mask % 2 ^ w) n
+unfolding masksOf
+masks-at w mask n h = getD-table 8 (maskAt (mask % 2 ^ w)) n h
+
+pub feedback-none : (t : List ℕ) (r : ℕ) → feedback t r 0 ≡ 0
+unfolding feedback
+feedback-none t r = refl
+
+pub feedback-more : (t : List ℕ) (r n : ℕ) → feedback t r (n + 1) ≡ feedback t r n * 2 + ones (bitAnd r (getD t n 0)) % 2
+unfolding feedback
+feedback-more t r n = rw add-one
+
+pub feedback-lt : (t : List ℕ) (r n : ℕ) → feedback t r n < 2 ^ n
+unfolding feedback
+feedback-lt t r zero = omega arith
+feedback-lt t r (suc n) = omega (arith, feedback-lt t r n, pow-suc 2 n)
+
+shift-mod : (x f m : ℕ) → (x % m * 2 + f) % m ≡ (x * 2 + f) % m
+shift-mod x f m =
+    let e : x * 2 + f ≡ (x / m * 2) * m + (x % m * 2 + f)
+    = ap (λ (z : ℕ). z * 2 + f) (sym (div-add-mod' x m)) ∙ omega (arith, mul-right-comm (x / m) 2 m) in
+    sym (ap (λ (z : ℕ). z % m) e ∙ mul-add-mod-self-right (x / m * 2) m (x % m * 2 + f))
+
+-- the register after n steps: shifted up n places, with their feedback behind it, and cut to the width
+pub after-fed : (w mask r n : ℕ) → n ≤ 8 → r < 2 ^ w → after w mask r n ≡ (r * 2 ^ n + feedback (masksOf w mask) r n) % 2 ^ w
+unfolding after step feedback
+after-fed w mask r zero l h = let e : r * 2 ^ zero + 0 ≡ r = omega arith in rw e (sym (mod-eq-of-lt h))
+after-fed w mask r (suc n) l h =
+    let cut = mask % 2 ^ w in
+    let s = after w mask r n in
+    let fed = feedback (masksOf w mask) r n in
+    let f = ones (bitAnd r (getD (masksOf w mask) n 0)) % 2 in
+    let g =
+    ap (λ (x : ℕ). ones x % 2) (sym (and-cut w s mask (after-lt w mask r n h)))
+    ∙ ap (λ (x : ℕ). ones (bitAnd x cut) % 2) (sym (after-cut w mask r n h))
+    ∙ odd-after w cut r n (mod-lt mask (pow-pos w))
+    ∙ ap (λ (m : ℕ). ones (bitAnd r m) % 2) (sym (masks-at w mask n l)) in
+    let e : (r * 2 ^ n + fed) * 2 + f ≡ r * 2 ^ suc n + (fed * 2 + f) = omega (arith, mul-assoc r (2 ^ n) 2, ap (λ (p : ℕ). r * p) (pow-suc 2 n)) in
+    ap₂ (λ (y z : ℕ). (y * 2 + z) % 2 ^ w) (after-fed w mask r n (omega arith) h) g
+    ∙ shift-mod (r * 2 ^ n + fed) f (2 ^ w)
+    ∙ ap (λ (x : ℕ). x % 2 ^ w) e
 
 -- the top n bits after a step stood one place lower before it
 step-down : (w mask r n m : ℕ) → w ≡ n + suc m → digits n (step w mask r / 2 ^ suc m) ≡ digits n (r / 2 ^ m)

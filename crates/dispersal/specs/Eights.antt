@@ -1,23 +1,25 @@
--- The register eight steps on by a table: what the table holds, and how it is used.
+-- The register eight steps on at once: the masks of the feedback bits, and the bits.
 use mathlib.Core.List.{List}
-use Prim.Native.Nat.{ℕ, _+_, _*_, _/_, _%_, _^_}
-use lib.Bits.{bitXor}
+use Prim.Native.Nat.{ℕ, zero, suc, _+_, _*_, _/_, _%_, _^_}
+use lib.Bits.{bitAnd, bitXor}
+use lib.Count.{ones}
 use lib.ListN.{getD}
 use Rattle.lists.specs.Count.{table}
-use Rattle.dispersal.specs.Register.{after}
 
--- the five bits that entry n is for: n % 32 at the place n / 32, places counted from the lowest five; cut to the width,
--- since not every place has five bits in a narrow register
-unfoldable pub five : ℕ → ℕ → ℕ
-five w n = n % 32 * 2 ^ (n / 32 * 5) % 2 ^ w
+-- a register after a step shares with m as many ones modulo 2 as it did before the step with this
+unfoldable pub drawn : ℕ → ℕ → ℕ
+drawn mask m = bitXor (m / 2) (m % 2 * mask)
 
--- the register eight steps on from each five bits alone
-unfoldable pub eightsTable : ℕ → ℕ → List ℕ
-eightsTable w mask = table 160 (λ n. after w mask (five w n) 8)
+-- the mask of the feedback n steps on
+unfoldable pub maskAt : ℕ → ℕ → ℕ
+maskAt mask zero = mask
+maskAt mask (suc n) = drawn mask (maskAt mask n)
 
--- the entries for the five places of a register, added modulo 2 at each bit
-unfoldable pub jumped : List ℕ → ℕ → ℕ
-jumped t r =
-    bitXor
-    (bitXor (bitXor (bitXor (getD t (128 + r / 2 ^ 20) 0) (getD t (96 + r / 2 ^ 15 % 32) 0)) (getD t (64 + r / 2 ^ 10 % 32) 0)) (getD t (32 + r / 2 ^ 5 % 32) 0))
-    (getD t (r % 32) 0)
+-- those of eight steps, of the mask cut to the width
+unfoldable pub masksOf : ℕ → ℕ → List ℕ
+masksOf w mask = table 8 (maskAt (mask % 2 ^ w))
+
+-- the feedback bits of n steps as a number, by masks for the register as it stands
+unfoldable pub feedback : List ℕ → ℕ → ℕ → ℕ
+feedback t r zero = 0
+feedback t r (suc n) = feedback t r n * 2 + ones (bitAnd r (getD t n 0)) % 2

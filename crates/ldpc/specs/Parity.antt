@@ -1,8 +1,9 @@
 -- Parity (document 01, "Checks in the slot" and "What demand 3 compares"). Bits are 0 or 1, in runs of 374 for each row.
+use mathlib.Core.Path.{_≡_}
 use mathlib.Core.Bool.{not}
 use mathlib.Core.List.{List}
-use Prim.Native.Nat.{ℕ, zero, suc, _+_, _*_, _-_, _%_}
-use lib.Dec.{eqb, leb}
+use Prim.Native.Nat.{ℕ, zero, suc, _+_, _*_, _%_, _<_, _≤_}
+use lib.Dec.{eqb}
 use lib.ListN.{getD}
 use Rattle.lists.specs.Choice.{pick}
 use Rattle.lists.specs.Count.{sum, first, table}
@@ -12,18 +13,14 @@ use Rattle.ldpc.specs.Tables.{spacing, positions, rowStart}
 abbrev pub position : ℕ → ℕ → ℕ → ℕ
 position rows a m = (a + m * spacing rows) % positions rows
 
--- a number with the size subtracted when it is reached
-abbrev pub less : ℕ → ℕ → ℕ
-less size x = pick (leb size x) (x - size) x
-
--- how often a bit of value b reaches position j, of size positions, through the n addresses of t from `from` on, each
--- moved on by o ("A bit reaches a position once for each address of its row that adds it there")
+-- how often bit m of a row, of value b, reaches position j through the n addresses of t from `from` on ("A bit reaches a
+-- position once for each address of its row that adds it there")
 unfoldable pub bitTimes : ℕ → List ℕ → ℕ → ℕ → ℕ → ℕ → ℕ → ℕ
-bitTimes size t from n o b j = sum n (λ i. pick (eqb ((getD t (from + i) 0 + o) % size) j) b 0)
+bitTimes rows t from n m b j = sum n (λ i. pick (eqb (position rows (getD t (from + i) 0) m) j) b 0)
 
 -- how often the n bits of u from base on, one row's, reach position j through the c addresses of t from `from` on
 unfoldable pub rowTimes : ℕ → List ℕ → List ℕ → ℕ → ℕ → ℕ → ℕ → ℕ → ℕ
-rowTimes rows t u from c base n j = sum n (λ m. bitTimes (positions rows) t from c (m * spacing rows) (getD u (base + m) 0) j)
+rowTimes rows t u from c base n j = sum n (λ m. bitTimes rows t from c m (getD u (base + m) 0) j)
 
 -- how often the bits of the first n rows reach position j ("Bit 374 × r + m .. for each address of row r")
 unfoldable pub timesTo : ℕ → List ℕ → List ℕ → ℕ → ℕ → ℕ
@@ -46,3 +43,12 @@ parityOf rows t u = table (positions rows) (running (times rows t u))
 -- where the first wrong position shows")
 unfoldable pub lowestWrong : ℕ → List ℕ → List ℕ → List ℕ → ℕ
 lowestWrong rows t u received = first (positions rows) (λ j. not (eqb (getD (parityOf rows t u) j 0) (getD received j 0)))
+
+-- document 01, "Worked by hand": a run in which only bit 0 is set, and a table whose row 0 has one address, a
+pub record OnlyFirst (rows : ℕ) (t u : List ℕ) (a : ℕ) : Type 0 where
+  pub some : 1 ≤ rows
+  pub set : getD u 0 0 ≡ 1
+  pub clear : (k : ℕ) → 0 < k → getD u k 0 ≡ 0
+  pub one : getD t 0 0 ≡ 1
+  pub address : getD t 1 0 ≡ a
+  pub below : a < positions rows

@@ -1,14 +1,12 @@
--- Laws of parity: positions, the times that a position is reached, the running sum, the parity bits and their check.
+-- Laws of parity: the times that a position is reached, the running sum, the parity bits and their check.
 use mathlib.Core.Path.{_≡_, refl, sym, ap, ap₂, _∙_}
 use mathlib.Core.Logic.{_↔_}
 use mathlib.Core.Bool.{Bool, true, false, not}
 use mathlib.Core.List.{List}
-use Prim.Native.Nat.{ℕ, zero, suc, _+_, _*_, _-_, _%_, _<_, _≤_}
-use native.Mathlib.Nat.{mod-add-mod, mod-eq-of-lt, mod-eq-sub-mod, mod-lt, suc-mul, mul-le-mul-right}
+use Prim.Native.Nat.{ℕ, zero, suc, _+_, _*_, _%_, _<_, _≤_}
 use native.Mathlib.Decide.{ℕ-discrete, decLt}
-use native.Mathlib.Numerals.{add-one}
 use native.Mathlib.Omega.{arith}
-use borrow.Author.Tests.{le-leb, lt-leb, eq-eqb, ne-eqb}
+use borrow.Author.Tests.{eq-eqb, ne-eqb}
 use lib.Dec.{eqb}
 use lib.ListN.{length, getD, List·getD-eq-default}
 use lib.Seq.{ext-getD}
@@ -19,64 +17,19 @@ use Rattle.lists.specs.CountLaws.{sum-none, sum-more, length-table, getD-table,
 use Rattle.lists.specs.Runs.{Bits}
 use Rattle.bits.specs.Sums.{added}
 use Rattle.bits.specs.SumLaws.{length-added, getD-added}
-use Rattle.ldpc.specs.Tables.{spacing, positions, rowStart}
-use Rattle.ldpc.specs.Parity.{less, position, bitTimes, rowTimes, timesTo, times, running, parityOf, lowestWrong}
+use Rattle.ldpc.specs.Tables.{positions, rowStart}
+use Rattle.ldpc.specs.Parity.{position, bitTimes, rowTimes, timesTo, times, running, parityOf, lowestWrong}
 
-less-cases : (size x y : ℕ) → (size ≤ x → x - size ≡ y) → (x < size → x ≡ y) → less size x ≡ y
-less-cases size x y f g = go (decLt x size)
-  where
-    go : Dec (x < size) → less size x ≡ y
-    go (yes h) = rw (lt-leb size x h) (g h)
-    go (no h) = let l : size ≤ x = omega arith in rw (le-leb size x l) (f l)
-
-pub less-mod : (size x : ℕ) → x < size + size → less size x ≡ x % size
-less-mod size x h =
-    less-cases size x (x % size)
-    (λ l. let b : x - size < size = omega arith in sym (mod-eq-of-lt b) ∙ sym (mod-eq-sub-mod l))
-    (λ l. sym (mod-eq-of-lt l))
-
-pub less-below : (size x : ℕ) → x < size + size → less size x < size
-less-below size x h = rw (less-mod size x h) (mod-lt x (omega arith))
-
--- the offset of bit m of a row, stepped by q from 0, leaves room for one more step
-pub offset-within : (rows m : ℕ) → m < 374 → m * spacing rows + spacing rows ≤ positions rows
-offset-within rows m h = rw suc-mul at (mul-le-mul-right (spacing rows) h)
-
-pub offset-next : (rows m : ℕ) → (m + 1) * spacing rows ≡ m * spacing rows + spacing rows
-offset-next rows m = rw add-one (suc-mul m (spacing rows))
-
--- an address moved on by the offset of bit m, less M when that is reached, is document 01's position
-pub position-moved : (rows a m : ℕ) → a < positions rows → m < 374 → less (positions rows) (a + m * spacing rows) ≡ position rows a m
-position-moved rows a m h l = less-mod (positions rows) (a + m * spacing rows) (omega (arith, offset-within rows m l))
-
--- stepped on by q, less M when that is reached, a position is that of the next bit
-pub position-next : (rows a m : ℕ) → rows < 120 → less (positions rows) (position rows a m + spacing rows) ≡ position rows a (m + 1)
-position-next rows a m h =
-    let b = mod-lt (a + m * spacing rows) {m = positions rows} (omega arith) in
-    less-mod (positions rows) (position rows a m + spacing rows) (omega arith)
-    ∙ mod-add-mod (a + m * spacing rows) (positions rows) (spacing rows)
-    ∙ ap (λ (x : ℕ). x % positions rows) (omega (arith, offset-next rows m))
-
-module _ (size : ℕ) (t : List ℕ) (from o b j : ℕ) where
-  pub bitTimes-none : bitTimes size t from 0 o b j ≡ 0
+module _ (rows : ℕ) (t : List ℕ) (from m b j : ℕ) where
+  pub bitTimes-none : bitTimes rows t from 0 m b j ≡ 0
   unfolding bitTimes
   bitTimes-none = sum-none _
 
-  pub bitTimes-more : (n p : ℕ) → p ≡ (getD t (from + n) 0 + o) % size → bitTimes size t from (n + 1) o b j ≡ bitTimes size t from n o b j + pick (eqb p j) b 0
+  pub bitTimes-more : (n : ℕ) → bitTimes rows t from (n + 1) m b j ≡ bitTimes rows t from n m b j + pick (eqb (position rows (getD t (from + n) 0) m) j) b 0
   unfolding bitTimes
-  bitTimes-more n p e = rw e (sum-more n _)
+  bitTimes-more n = sum-more n _
 
 module _ (rows : ℕ) (t u : List ℕ) (j : ℕ) where
-  pub rowTimes-none : (from c base : ℕ) → rowTimes rows t u from c base 0 j ≡ 0
-  unfolding rowTimes
-  rowTimes-none from c base = sum-none _
-
-  pub rowTimes-more : (from c base n : ℕ)
-      → rowTimes rows t u from c base (n + 1) j
-      ≡ rowTimes rows t u from c base n j + bitTimes (positions rows) t from c (n * spacing rows) (getD u (base + n) 0) j
-  unfolding rowTimes
-  rowTimes-more from c base n = sum-more n _
-
   pub timesTo-none : timesTo rows t u 0 j ≡ 0
   unfolding timesTo
   timesTo-none = sum-none _

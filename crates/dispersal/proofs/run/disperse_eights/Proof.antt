@@ -2,10 +2,9 @@
 -- is the one after the bits passed.
 use mathlib.Core.Path.{_≡_, sym, ap, ap₂, _∙_}
 use mathlib.Core.List.{List}
-use Prim.Native.Nat.{ℕ, _+_, _-_, _/_, _%_, _^_, _≤_, _<_}
+use Prim.Native.Nat.{ℕ, _+_, _-_, _*_, _/_, _%_, _^_, _≤_, _<_}
 use native.Mathlib.Omega.{arith}
 use lib.ListN.{length, take}
-use lib.Pow.{pow-mono}
 use borrow.Author.Needs.{needs}
 use Rattle.lists.specs.Filling.{Filling}
 use Rattle.lists.specs.FillingLaws.{filling-none, filling-rest, filling-part, filling-all}
@@ -16,8 +15,8 @@ use Rattle.dispersal.specs.Register.{after}
 use Rattle.dispersal.specs.RegisterLaws.{after-none, after-add, after-lt}
 use Rattle.dispersal.specs.Dispersal.{dispersed}
 use Rattle.dispersal.specs.DispersalLaws.{length-dispersed}
-use Rattle.dispersal.specs.Eights.{jumped}
-use Rattle.dispersal.specs.EightLaws.{jumped-is, dispersed-eight}
+use Rattle.dispersal.specs.Eights.{feedback}
+use Rattle.dispersal.specs.EightLaws.{after-fed, dispersed-eight}
 use Rattle.dispersal.proofs.run.disperse_eights.Statement.{statement}
 use Rattle.dispersal.proofs.run.disperse_eights.Tie as tie
 
@@ -28,17 +27,17 @@ record Inv (width mask register : ℕ) (found run : List ℕ) (held at : ℕ) : 
   filling : Filling (dispersed width mask register found) found at run
 
 abbrev Inv-loop : tie.InvT-loop
-Inv-loop width mask register table run₀ held₀ at₀ run held at = Inv width mask register run₀ run held at
+Inv-loop width mask register masks run₀ held₀ at₀ run held at = Inv width mask register run₀ run held at
 
 abbrev μ-loop : tie.MeasureT-loop
-μ-loop width mask register table run₀ held₀ at₀ run held at = length run₀ - at
+μ-loop width mask register masks run₀ held₀ at₀ run held at = length run₀ - at
 
 loop-holds : tie.Need-loop-holds Inv-loop μ-loop
 loop-holds c =
     let a = c .before .args in
     record {
       whole = search needs;
-      small = c .before .pre .tabled .small;
+      small = c .before .pre .masked .small;
       reached = sym (after-none (a .width) (a .mask) (a .register));
       filling = filling-none _ _ (length-dispersed (a .width) (a .mask) (a .register) (a .run .now));
     }
@@ -46,14 +45,14 @@ loop-holds c =
 add-tops-requires : tie.Need-add-tops-requires Inv-loop μ-loop
 add-tops-requires c κs =
     let l = c .before .before .loop in
-    let t = c .before .before .before .before .pre .tabled in
+    let t = c .before .before .before .before .pre .masked in
     record { low = t .low; high = t .high; small = l .inv .small; eight = length-part (l .at) (l .at + 8) (l .run) (search needs) ∙ omega arith }
 
 jump-requires : tie.Need-jump-requires Inv-loop μ-loop
 jump-requires c κs =
     let b = c .before .before .before .before .before in
-    let t = b .before .before .pre .tabled in
-    omega (arith, b .loop .inv .small, pow-mono {i = b .before .before .args .width} {j = 25} (t .high))
+    let t = b .before .before .pre .masked in
+    record { low = search needs; high = t .high; small = search needs }
 
 loop-again : tie.Need-loop-again Inv-loop μ-loop
 loop-again c =
@@ -61,9 +60,12 @@ loop-again c =
     let l = b .loop in
     let s = b .before .before in
     let a = s .args in
-    let t = s .pre .tabled in
+    let t = s .pre .masked in
     let h : l .at + 8 ≤ length (a .run .now) = search needs in
-    let on = c .jump .ensures ∙ ap (λ (u : List ℕ). jumped u (l .held)) (t .table) ∙ jumped-is (a .width) (a .mask) (l .held) (t .high) (l .inv .small) in
+    let on =
+    c .jump .ensures
+    ∙ ap (λ (u : List ℕ). (l .held * 2 ^ 8 + feedback u (l .held) 8) % 2 ^ a .width) (t .masks)
+    ∙ sym (after-fed (a .width) (a .mask) (l .held) 8 (omega arith) (l .inv .small)) in
     let d =
     c .before .before .before .add-tops .ensures
     ∙ ap₂ (λ (u : List ℕ) (r : ℕ). added (take (l .at + 8 - l .at) u) (digits 8 (r / 2 ^ (a .width - 8)))) (filling-rest _ _ (l .at) (l .run) (l .inv .filling)) (l .inv .reached)
