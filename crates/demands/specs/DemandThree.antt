@@ -2,6 +2,7 @@
 use mathlib.Core.Path.{_≡_, refl, sym, ap, ap₂, _∙_}
 use mathlib.Core.Bool.{true}
 use mathlib.Core.List.{List}
+use mathlib.Core.Logic.{_↔_}
 use Prim.Native.Nat.{ℕ, _+_, _-_, _*_, _<_, _≤_}
 use native.Mathlib.Omega.{arith}
 use borrow.Author.Tests.{eq-eqb}
@@ -16,22 +17,23 @@ use Rattle.plan.specs.declared.Plan.{Plan}
 use Rattle.plan.specs.declared.FrameState.{FrameState}
 use Rattle.plan.specs.Rates.{modulationOk, rateOk, symbolsOf}
 use Rattle.plan.specs.RateLaws.{Rows}
+use Rattle.plan.specs.Sizes.{slotOctets, blockOctets}
 use Rattle.plan.specs.Plans.{modulationOf, rateOf, slotsOf}
 use Rattle.plan.specs.PlanLaws.{accepted, Values, group-values}
 use Rattle.plan.specs.Places.{groupAt, carries}
 use Rattle.plan.specs.PlaceLaws.{group-holds}
-use Rattle.plan.specs.States.{planIn}
+use Rattle.plan.specs.Records.{planIn}
 use Rattle.plan.specs.StateLaws.{Ready}
-use Rattle.symbols.specs.Labels.{slotNumber as labelsNumber, blockNumber as blockLabelsNumber, blockLabels}
-use Rattle.symbols.specs.CallLaws.{lengths-yes}
-use Rattle.slot.specs.Slots.{slotOctets, sourceOctets, slotOf}
-use Rattle.slot.specs.SlotLaws.{Source, length-slotOf}
+use Rattle.symbols.specs.Labels.{labelsOfSlot, labelsOfBlock, blockLabels, slotNumber as labelsNumber, blockNumber as blockLabelsNumber}
+use Rattle.symbols.specs.CallLaws.{lengths-yes, slots-equal as label-slots, blocks-equal as label-blocks}
+use Rattle.slot.specs.Slots.{sourceOctets, slotOf}
+use Rattle.slot.specs.SlotLaws.{Source, length-slotOf, slotOf-octets}
 use Rattle.slot.specs.Calls.{rowsAt, slotNumber, codeAnswer, codeArea}
 use Rattle.slot.specs.CallLaws.{Accepted-slot, accepted-slot}
 use Rattle.slot.specs.RoundTrips.{slotNumber-lengths}
 use Rattle.slot.specs.DemandThree as slots
-use Rattle.tmcc.specs.Blocks.{sourceOctets as tmccOctets, blockOctets, blockOf}
-use Rattle.tmcc.specs.BlockLaws.{length-blockOf}
+use Rattle.tmcc.specs.Blocks.{sourceOctets as tmccOctets, messageOf, blockOf}
+use Rattle.tmcc.specs.BlockLaws.{length-blockOf, blockOf-octets}
 use Rattle.tmcc.specs.Calls.{lentNumber, codeNumber}
 use Rattle.tmcc.specs.CallLaws.{codable}
 use Rattle.tmcc.specs.RoundTrips.{lent-lengths}
@@ -49,13 +51,22 @@ symbols-taken : (m rate : ℕ) (c : List ℕ) → modulationOk m ≡ true → ra
 unfolding labelsNumber
 symbols-taken m rate c h k l = rw (h, k) (lengths-yes slotOctets (symbolsOf m) (length c) (symbolsOf m) (record { octets = l; labels = refl }))
 
+-- "The symbols of a slot .. are the labels that its symbol call makes of its octets": under any modulation and rate they
+-- are equal exactly when header and data are
+slot-symbols : (R : ℕ) (t : List ℕ) (mask r : ℕ) (x y : List ℕ) → Rows R → Source R x → Source R y → (m rate : ℕ) → modulationOk m ≡ true
+    → (labelsOfSlot m rate (slotOf R t mask r x) ≡ labelsOfSlot m rate (slotOf R t mask r y)) ↔ (x ≡ y)
+slot-symbols R t mask r x y w a b m rate h =
+    let e = label-slots m rate h (slotOf R t mask r x) (slotOf R t mask r y) (length-slotOf R t mask r x) (length-slotOf R t mask r y) (slotOf-octets R t mask r x) (slotOf-octets R t mask r y) in
+    let d = slots.slots-equal R t mask r x y w a b in
+    ((λ i. d .0 (e .0 i)), (λ i. e .1 (d .1 i)))
+
 -- two slots c and d, coded from x and y at one place
 compared : (R : ℕ) (t : List ℕ) (m rate mask r : ℕ) (x y : List ℕ) → Rows R → modulationOk m ≡ true → rateOk rate ≡ true → Source R x → Source R y
     → {c d : List ℕ} → c ≡ slotOf R t mask r x → d ≡ slotOf R t mask r y → Compared R t m rate x y c d
 compared R t m rate mask r x y w h k a b e f =
     rw (e, f) (record {
       symbols-made = (symbols-taken m rate (slotOf R t mask r x) h k (length-slotOf R t mask r x), symbols-taken m rate (slotOf R t mask r y) h k (length-slotOf R t mask r y));
-      symbols = slots.labels-equal R t mask r x y w a b m rate h;
+      symbols = slot-symbols R t mask r x y w a b m rate h;
       bch = slots.bch-equal R t mask r x y w a b;
       bch-as-sent = slots.bch-sent-equal R t mask r x y w a b;
       ldpc = slots.parity-equal R t mask r x y w a b;
@@ -161,13 +172,21 @@ block-taken : (c : List ℕ) → length c ≡ blockOctets → blockLabelsNumber 
 unfolding blockLabelsNumber
 block-taken c l = lengths-yes blockOctets blockLabels (length c) blockLabels (record { octets = l; labels = refl })
 
+-- "31,680 BPSK labels": the symbols of two blocks are equal exactly when the 9,422 bits are
+block-symbols : (t : List ℕ) (mask start : ℕ) (x y : List ℕ) → length x ≡ tmccOctets → length y ≡ tmccOctets
+    → (labelsOfBlock (blockOf t mask start x) ≡ labelsOfBlock (blockOf t mask start y)) ↔ (messageOf x ≡ messageOf y)
+block-symbols t mask start x y a b =
+    let e = label-blocks (blockOf t mask start x) (blockOf t mask start y) (length-blockOf t mask start x) (length-blockOf t mask start y) (blockOf-octets t mask start x) (blockOf-octets t mask start y) in
+    let d = blocks.blocks-equal t mask start x y a b in
+    ((λ i. d .0 (e .0 i)), (λ i. e .1 (d .1 i)))
+
 pub blocks-compared : BlocksCompared
 blocks-compared mask start t x y a b n m =
     let lx = codable mask start t x a n .lent .source-long in
     let ly = codable mask start t y b m .lent .source-long in
     record {
       symbols-made = (block-taken (blockOf t mask start x) (length-blockOf t mask start x), block-taken (blockOf t mask start y) (length-blockOf t mask start y));
-      symbols = blocks.labels-equal t mask start x y lx ly;
+      symbols = block-symbols t mask start x y lx ly;
       bch = blocks.bch-equal t mask start x y lx ly;
       bch-as-sent = blocks.bch-sent-equal t mask start x y lx ly;
       ldpc = blocks.parity-equal t mask start x y lx ly;

@@ -15,13 +15,14 @@ use Rattle.lists.specs.RunLaws.{below-part}
 use Rattle.refusal.specs.Numbers.{DUMMY}
 use Rattle.plan.specs.declared.Plan.{Plan}
 use Rattle.plan.specs.declared.FrameState.{FrameState}
+use Rattle.plan.specs.Sizes.{slotOctets}
 use Rattle.plan.specs.Places.{carries}
 use Rattle.plan.specs.States.{passed}
 use Rattle.symbols.specs.CallLaws.{slot-labels-slot, labels-slot-labels, block-labels-block, labels-block-labels}
-use Rattle.slot.specs.Slots.{slotOctets, slotOf}
+use Rattle.slot.specs.Slots.{slotShape, slotOf}
 use Rattle.slot.specs.SlotLaws.{Source}
 use Rattle.slot.specs.Reading.{receivedNumber, sourceOf}
-use Rattle.slot.specs.ReadingLaws.{Received}
+use Rattle.codeword.specs.ReadingLaws.{Received}
 use Rattle.slot.specs.Calls.{rowsAt, codeAnswer, codeArea, readAnswer, readArea}
 use Rattle.slot.specs.RoundTrips as slots
 use Rattle.tmcc.specs.RoundTrips as blocks
@@ -129,7 +130,7 @@ module _ (p : Plan) (mask start : ℕ) (ts frame source out : List ℕ) (o : Oct
       let m = sourcesOf p ts mask start frame source in
       let n : answerAt s ts d ≡ 0 = sym (answer-at p ts mask start frame k h) ∙ e in
       let g : receivedNumber R t mask r d ≡ 0 = sym (answer-data s ts c d) ∙ n in
-      let w : Received d = record { octets = below-part 255 (slotOctets * k) (slotOctets * (k + 1)) frame o; long = length-slotIn frame k (l .frame-long) h } in
+      let w : Received (slotShape R) d = record { octets = below-part 255 (slotOctets * k) (slotOctets * (k + 1)) frame o; long = length-slotIn frame k (l .frame-long) h } in
       let z : sourceIn p m k ≡ sourceOf R mask r d = source-at p ts mask start frame source (l .source-long) k h ∙ rw (eq-eqb _ 0 n) in
       slot-at p ts mask start m out lo k h
       ∙ coded-data s ts c (sourceIn p m k) (slotIn out k)

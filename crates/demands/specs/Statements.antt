@@ -25,17 +25,18 @@ use Rattle.plan.specs.declared.FrameState.{FrameState}
 use Rattle.plan.specs.Rates.{symbolsOf}
 use Rattle.plan.specs.Plans.{modulationOf, rateOf}
 use Rattle.plan.specs.Places.{groupAt, carries}
-use Rattle.plan.specs.States.{slotWidth, planIn, passed}
+use Rattle.plan.specs.Sizes.{slotOctets, slotWidth, blockOctets, blockWidth}
+use Rattle.plan.specs.Records.{planIn}
+use Rattle.plan.specs.States.{passed}
 use Rattle.symbols.specs.Index.{bitAt, rightToLeft}
 use Rattle.symbols.specs.Labels.{labelsOfSlot, slotOfLabels, labelsOfBlock, blockOfLabels, blockLabels, slotNumber as labelsNumber, slotOfLabelsNumber, blockNumber as blockLabelsNumber, blockOfLabelsNumber}
-use Rattle.slot.specs.Slots.{slotOctets, registerAfter}
-use Rattle.slot.specs.Reading.{covered, parity, bchIn}
-use Rattle.slot.specs.Calls.{rowsAt, codeAnswer, codeArea, readAnswer, readArea}
-use Rattle.slot.specs.RoundTrips.{Answers}
-use Rattle.tmcc.specs.Blocks.{blockWidth, sourceOctets as tmccOctets, blockOctets, messageOf, blockOf}
-use Rattle.tmcc.specs.Reading.{runIn, parityIn, sourceOf}
+use Rattle.codeword.specs.Reading.{parityIn, bchIn, EvenTimes}
+use Rattle.slot.specs.Slots.{slotShape, registerAfter}
+use Rattle.slot.specs.Reading.{covered, parity}
+use Rattle.slot.specs.Calls.{rowsAt, codeAnswer, codeArea, readAnswer, readArea, Answers}
+use Rattle.tmcc.specs.Blocks.{sourceOctets as tmccOctets, blockShape, messageOf, blockOf}
+use Rattle.tmcc.specs.Reading.{sourceOf}
 use Rattle.tmcc.specs.Calls.{codeNumber, readNumber}
-use Rattle.tmcc.specs.DemandThree.{bchSent, EvenTimes}
 use Rattle.frame.specs.Tables.{tableOf}
 use Rattle.frame.specs.Steps.{tableAt}
 use Rattle.frame.specs.Frames.{rowsOfSlot, stateBefore, slotIn, sourceIn, frameOf, answersOf, sourcesOf, frameNumber, readFrameNumber}
@@ -153,7 +154,7 @@ pub record Compared (R : ℕ) (t : List ℕ) (m rate : ℕ) (x y c d : List ℕ)
   -- dispersal ..
   pub bch : (bchBits (bitsOf x) ≡ bchBits (bitsOf y)) ↔ Divides generator (polynomialOf (added (bitsOf x) (bitsOf y)))
   -- .. and as sent"
-  pub bch-as-sent : (bchIn R (bitsOf c) ≡ bchIn R (bitsOf d)) ↔ Divides generator (polynomialOf (added (bitsOf x) (bitsOf y)))
+  pub bch-as-sent : (bchIn (slotShape R) (bitsOf c) ≡ bchIn (slotShape R) (bitsOf d)) ↔ Divides generator (polynomialOf (added (bitsOf x) (bitsOf y)))
   -- "their LDPC parities exactly when the differing bits reach each position an even number of times"
   pub ldpc : (parity R c ≡ parity R d) ↔ ((j : ℕ) → j < positions R → times R t (added (covered R c) (covered R d)) j % 2 ≡ 0)
 
@@ -180,9 +181,9 @@ pub record ComparedBlocks (t x y c d : List ℕ) : Type 0 where
   pub symbols-made : (blockLabelsNumber (length c) blockLabels ≡ 0) × (blockLabelsNumber (length d) blockLabels ≡ 0)
   pub symbols : (labelsOfBlock c ≡ labelsOfBlock d) ↔ (messageOf x ≡ messageOf y)
   pub bch : (bchBits (messageOf x) ≡ bchBits (messageOf y)) ↔ Divides generator (polynomialOf (added (messageOf x) (messageOf y)))
-  pub bch-as-sent : (bchSent c ≡ bchSent d) ↔ Divides generator (polynomialOf (added (messageOf x) (messageOf y)))
+  pub bch-as-sent : (bchIn blockShape (bitsOf c) ≡ bchIn blockShape (bitsOf d)) ↔ Divides generator (polynomialOf (added (messageOf x) (messageOf y)))
   -- "the whole parity input of a block"
-  pub ldpc : (parityIn c ≡ parityIn d) ↔ EvenTimes t (runIn c) (runIn d)
+  pub ldpc : (parityIn blockShape c ≡ parityIn blockShape d) ↔ EvenTimes blockShape t c d
 
 abbrev pub BlocksCompared : Type 0
 BlocksCompared =

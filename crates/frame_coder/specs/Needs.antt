@@ -4,7 +4,7 @@ use mathlib.Core.List.{List}
 use lib.ListN.{length}
 use Prim.Native.Nat.{ℕ}
 use Rattle.plan.specs.declared.FrameState.{FrameState}
-use Rattle.slot.specs.Slots.{slotOctets}
+use Rattle.plan.specs.Sizes.{slotOctets}
 use Rattle.frame.specs.Needs.{Placed}
 
 -- a slot's place, with its 5,610 octets

@@ -16,7 +16,7 @@ pub extern "C" fn s3_code_tmcc(
 ) -> u32
     ensures { λ r. ⌜ Answered (codeNumber mask start (now (table .entry)) (now (source .entry)) (now (block .entry))) (blockOf (now (table .entry)) mask start (now (source .entry))) (now (block .entry)) r (now (block .exit)) ⌝ }
 {
-    word(tmcc::code_block(mask, start, table, source, block))
+    word(tmcc_coder::code_block(mask, start, table, source, block))
 }
 
 // Reads a block: the octets of its TMCC bits; a refusal leaves them as they were.
@@ -30,5 +30,5 @@ pub extern "C" fn s3_read_tmcc(
 ) -> u32
     ensures { λ r. ⌜ Answered (readNumber mask start (now (table .entry)) (now (block .entry)) (now (source .entry))) (sourceOf mask start (now (block .entry))) (now (source .entry)) r (now (source .exit)) ⌝ }
 {
-    word(tmcc::read_block(mask, start, table, block, source))
+    word(tmcc_reader::read_block(mask, start, table, block, source))
 }

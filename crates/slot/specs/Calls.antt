@@ -1,4 +1,5 @@
 -- The calls on a slot (document 01, "Refusal list"): their numbers, states and areas.
+use mathlib.Core.Path.{_≡_}
 use mathlib.Core.Bool.{_&&_}
 use mathlib.Core.List.{List}
 use Prim.Native.Nat.{ℕ}
@@ -66,3 +67,9 @@ checkNumber rate t coded =
     (andThen (pick (eqb (length coded) slotOctets) 0 LENGTH)
     (andThen (pick (tableOk (rowsOf rate) t) 0 TABLE)
     (checkedNumber (rowsOf rate) t coded)))
+
+-- that a call answers 0 with this state, and leaves these octets in its area
+pub record Answers (a : Answer) (area : List ℕ) (next : FrameState) (octets : List ℕ) : Type 0 where
+  pub number : a .number ≡ 0
+  pub state : a .state ≡ next
+  pub octets-are : area ≡ octets

@@ -1,11 +1,13 @@
 -- A received slot, read (document 01, "Refusal list"): 8, 9 and 10 in this order.
+use mathlib.Core.Path.{_≡_}
 use mathlib.Core.Bool.{Bool}
 use mathlib.Core.List.{List}
+use mathlib.Core.Logic.{_⊎_}
 use Prim.Native.Nat.{ℕ}
 use lib.Dec.{eqb}
 use lib.ListN.{take, drop}
 use Rattle.lists.specs.Choice.{pick, andThen}
-use Rattle.refusal.specs.Numbers.{STUFF}
+use Rattle.refusal.specs.Numbers.{PARITY, BCH, STUFF}
 use Rattle.bits.specs.Digits.{number}
 use Rattle.bits.specs.Octets.{bitsOf, octetsOf}
 use Rattle.codeword.specs.Reading.{takenOff, messageIn, tailIn, wrongPosition, parityNumber, wordNumber}
@@ -34,3 +36,7 @@ sourceOf R mask r c = octetsOf (sourceOctets R) (messageIn (slotShape R) (takenO
 -- 8 alone, whatever the slot's dispersal
 unfoldable pub checkedNumber : ℕ → List ℕ → List ℕ → ℕ
 checkedNumber R t c = parityNumber (slotShape R) (wrongPosition (slotShape R) t (bitsOf c))
+
+-- the numbers with which a reading moves on: 0, and "8, 9 and 10 move the slot reader on one place"
+abbrev pub MovesOn : ℕ → Type 0
+MovesOn n = (n ≡ 0) ⊎ (n ≡ PARITY) ⊎ (n ≡ BCH) ⊎ (n ≡ STUFF)

@@ -3,7 +3,7 @@
 use mathlib.Core.Path.{_≡_, refl, sym, ap, _∙_}
 use mathlib.Core.Bool.{Bool, true, false}
 use mathlib.Core.List.{List}
-use mathlib.Core.Logic.{_↔_, _⊎_, inl, inr}
+use mathlib.Core.Logic.{_↔_, inl, inr}
 use Prim.Native.Nat.{ℕ, _*_}
 use native.Mathlib.Omega.{arith}
 use borrow.Author.Tests.{eqb-true, eq-eqb}
@@ -25,7 +25,7 @@ use Rattle.codeword.specs.Reading.{takenOff, messageIn, tailIn, wrongPosition, 
 use Rattle.codeword.specs.ReadingLaws.{Good, word-good, messageIn-bits, tailIn-bits, messageIn-long, tailIn-long}
 use Rattle.slot.specs.Slots.{sourceOctets, stuffBits, slotShape}
 use Rattle.slot.specs.SlotLaws.{sizes, fits, Source}
-use Rattle.slot.specs.Reading.{stuffRight, receivedNumber, sourceOf}
+use Rattle.slot.specs.Reading.{stuffRight, receivedNumber, sourceOf, MovesOn}
 
 -- six ones are the number 63
 ones-number : number 6 stuffBits ≡ 63
@@ -65,10 +65,6 @@ received-good R t mask r c w l =
           record { word = g .0 (a .0); stuff = s .0 (not-refused (stuffRight R u) STUFF (omega arith) (a .1)) }),
       (λ o. then-both (wordNumber F t mask r c) _ (g .1 (o .word)) (rw (s .1 (o .stuff)))),
     )
-
--- the numbers with which a reading moves on: 0, and "8, 9 and 10 move the slot reader on one place"
-abbrev pub MovesOn : ℕ → Type 0
-MovesOn n = (n ≡ 0) ⊎ (n ≡ PARITY) ⊎ (n ≡ BCH) ⊎ (n ≡ STUFF)
 
 one-of-four : (p b s : Bool) → MovesOn (andThen (andThen (pick p 0 PARITY) (pick b 0 BCH)) (pick s 0 STUFF))
 one-of-four false b s = inr (inl refl)

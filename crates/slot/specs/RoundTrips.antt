@@ -35,9 +35,9 @@ use Rattle.codeword.specs.ReadingLaws.{Received, word-good}
 use Rattle.codeword.specs.RoundTrips.{coded-read as word-back, read-coded as word-again}
 use Rattle.slot.specs.Slots.{sourceOctets, coveredBits, stuffBits, slotShape, slotOf, registerAfter}
 use Rattle.slot.specs.SlotLaws.{Source, fits, message, length-slotOf}
-use Rattle.slot.specs.Reading.{receivedNumber, sourceOf}
-use Rattle.slot.specs.ReadingLaws.{GoodSlot, MovesOn, received-numbers, received-good, sourceOf-source, sourceOf-bits}
-use Rattle.slot.specs.Calls.{rowsAt, dataNumber, lentNumber, slotNumber, nextState, codeAnswer, codeArea, readNumber, readAnswer, readArea}
+use Rattle.slot.specs.Reading.{receivedNumber, sourceOf, MovesOn}
+use Rattle.slot.specs.ReadingLaws.{GoodSlot, received-numbers, received-good, sourceOf-source, sourceOf-bits}
+use Rattle.slot.specs.Calls.{rowsAt, dataNumber, lentNumber, slotNumber, nextState, codeAnswer, codeArea, readNumber, readAnswer, readArea, Answers}
 use Rattle.slot.specs.CallLaws.{accepted-slot}
 
 -- that reading the slot c answers 0 and gives these header and data octets
@@ -177,12 +177,6 @@ coded-next s t source coded h = rw (coded-state s t source coded h) (next-sound 
 
 pub read-next : (s : FrameState) (t coded source : List ℕ) → MovesOn (readAnswer s t coded source .number) → soundNumber (readAnswer s t coded source .state) ≡ 0
 read-next s t coded source m = rw (read-state s t coded source m) (next-sound s t source coded (read-moves s t coded source .0 m))
-
--- that a call answers 0 with this state, and leaves these octets in its area
-pub record Answers (a : Answer) (area : List ℕ) (next : FrameState) (octets : List ℕ) : Type 0 where
-  pub number : a .number ≡ 0
-  pub state : a .state ≡ next
-  pub octets-are : area ≡ octets
 
 -- a slot that was coded with 0, read at the same state with the same table: 0, the same next state, header and data
 pub code-then-read : (s : FrameState) (t source coded out : List ℕ) → Octets source → length out ≡ length source

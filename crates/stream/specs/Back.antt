@@ -18,8 +18,8 @@ use Rattle.packets.specs.Packets.{packed, unpacked}
 use Rattle.packets.specs.PacketLaws.{pack-ready, packed-none, packed-more, length-packed, unpacked-packed}
 use Rattle.slot.specs.Slots.{sourceOctets}
 use Rattle.slot.specs.Reading.{sourceOf}
-use Rattle.slot.specs.Calls.{rowsAt, dataNumber, codeAnswer, codeArea, readAnswer}
-use Rattle.slot.specs.RoundTrips.{Answers, code-then-read}
+use Rattle.slot.specs.Calls.{rowsAt, dataNumber, codeAnswer, codeArea, readAnswer, Answers}
+use Rattle.slot.specs.RoundTrips.{code-then-read}
 use Rattle.stream.specs.SlotPackets.{rateAt, laid, laidNumber, roomNumber, codePacketsAnswer, codePacketsArea, slotAnswer, slotPackets, readPacketsAnswer, readPacketsArea}
 use Rattle.stream.specs.SlotPacketsLaws.{rate-known, room-next, source-at, slot-source}
 
