@@ -6,13 +6,12 @@ use native.Mathlib.Omega.{arith}
 use lib.ListN.{length, take, drop, length-drop, take-append-drop}
 use lib.Seq.{drop-drop, drop-append-le, length-take-le}
 use Rattle.lists.specs.Parts.{part}
-use Rattle.lists.specs.Runs.{Octets}
 use Rattle.bits.specs.Digits.{number}
 use Rattle.bits.specs.DigitLaws.{number-append}
 use Rattle.bits.specs.Octets.{bitsOf, octetsOf}
-use Rattle.bits.specs.OctetLaws.{length-bitsOf, take-bitsOf, drop-bitsOf, length-octetsOf, octetsOf-octets}
+use Rattle.bits.specs.OctetLaws.{length-bitsOf, take-bitsOf, drop-bitsOf, length-octetsOf}
 use Rattle.bits.specs.Sums.{added, addedThree, addedOctets}
-use Rattle.bits.specs.SumLaws.{length-three, three-bits, added-take, added-drop}
+use Rattle.bits.specs.SumLaws.{length-three, added-take, added-drop}
 
 octetsOf-drop : (a n : ℕ) (u : List ℕ) → drop a (octetsOf (a + n) u) ≡ octetsOf n (drop (8 * a) u)
 unfolding octetsOf
@@ -49,10 +48,6 @@ part-bitsOf a m xs h =
 pub length-addedOctets : (n : ℕ) (x y z : List ℕ) → length (addedOctets n x y z) ≡ n
 unfolding addedOctets
 length-addedOctets n x y z = length-octetsOf n (addedThree (bitsOf x) (bitsOf y) (bitsOf z))
-
-pub addedOctets-octets : (n : ℕ) (x y z : List ℕ) → Octets (addedOctets n x y z)
-unfolding addedOctets
-addedOctets-octets n x y z = octetsOf-octets n (addedThree (bitsOf x) (bitsOf y) (bitsOf z)) (three-bits (bitsOf x) (bitsOf y) (bitsOf z))
 
 three-drop : (n : ℕ) (u v x : List ℕ) → drop n (addedThree u v x) ≡ addedThree (drop n u) (drop n v) (drop n x)
 three-drop n u v x = added-drop n (added u v) x ∙ ap (λ (s : List ℕ). added s (drop n x)) (added-drop n u v)

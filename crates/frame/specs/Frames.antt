@@ -4,7 +4,6 @@ use mathlib.Core.Bool.{_&&_}
 use mathlib.Core.List.{List}
 use Prim.Native.Nat.{ℕ, zero, suc, _+_, _*_}
 use lib.Dec.{eqb}
-use lib.ListN.{length}
 use Rattle.lists.specs.Choice.{pick, andThen}
 use Rattle.lists.specs.Count.{sum, table, joined}
 use Rattle.lists.specs.Parts.{part}

@@ -1,30 +1,25 @@
 -- Laws of a whole frame and the calls on its slots one by one, from opening, dummies passed: "equals the slot-by-slot calls" (document
 -- 01, "Plan and place").
-use mathlib.Core.Path.{_≡_, refl, sym, ap, _∙_}
+use mathlib.Core.Path.{_≡_, refl, sym, _∙_}
 use mathlib.Core.Bool.{Bool, true, false}
 use mathlib.Core.List.{List}
 use Prim.Native.Nat.{ℕ, zero, suc, _+_, _<_, _≤_}
 use native.Mathlib.Omega.{arith}
 use native.Mathlib.Numerals.{add-one}
 use borrow.Author.Tests.{eq-eqb}
-use lib.Dec.{eqb}
 use lib.ListN.{length}
 use Rattle.lists.specs.Choice.{pick}
 use Rattle.lists.specs.ChoiceLaws.{then-next}
 use Rattle.plan.specs.declared.Plan.{Plan}
 use Rattle.plan.specs.declared.FrameState.{FrameState}
-use Rattle.plan.specs.Sizes.{slotOctets}
 use Rattle.plan.specs.Places.{carries}
 use Rattle.plan.specs.States.{planIn, opened, passNumber, passed}
 use Rattle.plan.specs.StateLaws.{Ready, pass-yes}
-use Rattle.slot.specs.Slots.{sourceOctets, slotOf}
-use Rattle.slot.specs.Reading.{receivedNumber, sourceOf}
 use Rattle.slot.specs.Calls.{rowsAt, slotNumber, codeAnswer, codeArea, readNumber, readAnswer, readArea}
 use Rattle.slot.specs.CallLaws.{slot-yes}
-use Rattle.frame.specs.Tables.{tablesOk}
 use Rattle.frame.specs.Steps.{tableAt, codedAt, answerAt, readAt, stateAfter}
 use Rattle.frame.specs.StepLaws.{coded-data, answer-data, after-data, after-dummy}
-use Rattle.frame.specs.Frames.{frameOctets, rowsOfSlot, registerBefore, stateBefore, slotIn, sourceFrom, sourceIn}
+use Rattle.frame.specs.Frames.{stateBefore, slotIn, sourceIn}
 use Rattle.frame.specs.FrameLaws.{at, first-state, state-more, state-ready, data-long, length-slotIn}
 use Rattle.frame.specs.CallLaws.{Lent}
 use Rattle.frame.specs.Walks.{codedTo, readTo}

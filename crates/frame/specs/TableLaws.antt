@@ -5,13 +5,13 @@ use mathlib.Core.List.{List, [], _++_}
 use Prim.Native.Nat.{ℕ, zero, suc, _+_, _-_, _<_, _≤_}
 use native.Mathlib.Omega.{arith}
 use native.Mathlib.Numerals.{add-one}
-use borrow.Author.Tests.{eqb-true, eq-eqb}
+use borrow.Author.Tests.{eq-eqb}
 use lib.Dec.{eqb}
 use lib.ListN.{length, take, drop, length-drop, take-append-drop}
 use lib.Seq.{drop-drop}
-use Rattle.lists.specs.Count.{every, joined}
+use Rattle.lists.specs.Count.{joined}
 use Rattle.lists.specs.CountLaws.{every-at, every-all, joinedAt, length-joined, joined-part, sum-none, sum-more, sum-mono}
-use Rattle.lists.specs.ChoiceLaws.{and-left, and-right, and-both, false-of}
+use Rattle.lists.specs.ChoiceLaws.{and-left, and-both, false-of}
 use Rattle.ldpc.specs.Tables.{tableOk, tableLength}
 use Rattle.ldpc.specs.TableLaws.{table-rows, tableLength-within, tableLength-some, tableLength-append, table-head}
 use Rattle.plan.specs.declared.Plan.{Plan}
@@ -52,10 +52,6 @@ module _ (p : Plan) (ts : List ℕ) where
     pub table-ok : (g : ℕ) → g < p .count → tableOk (rowsOf (rateOf p g)) (tableOf p ts g) ≡ true
     unfolding tablesOk
     table-ok g l = every-at (p .count) (λ i. tableOk (rowsOf (rateOf p i)) (tableOf p ts i)) (and-left _ _ h) g l
-
-    pub tables-end : tableFrom p ts (p .count) ≡ length ts
-    unfolding tablesOk
-    tables-end = eqb-true _ _ (and-right (every (p .count) (λ g. tableOk (rowsOf (rateOf p g)) (tableOf p ts g))) _ h)
 
   -- where a table stands at the head of what is left, it is the group's
   pub table-here : (g : ℕ) → (tableLength (rowsOf (rateOf p g)) (drop (tableFrom p ts g) ts) ≡ 0 → ⊥) → tableOk (rowsOf (rateOf p g)) (tableOf p ts g) ≡ true

@@ -130,14 +130,6 @@ unfolding first
 first-first zero f = record { within = omega arith; before = λ k j. absurd (omega arith); there = λ k. absurd (omega arith) }
 first-first (suc n) f = first-next n f (first n f) (first-first n f) (ltb (first n f) n) (f n) refl refl
 
-pub table-none : (f : ℕ → ℕ) → table 0 f ≡ []
-unfolding table
-table-none f = refl
-
-pub table-more : (n : ℕ) (f : ℕ → ℕ) → table (n + 1) f ≡ table n f ++ (f n ∷ [])
-unfolding table
-table-more n f = rw add-one
-
 pub length-table : (n : ℕ) (f : ℕ → ℕ) → length (table n f) ≡ n
 unfolding table
 length-table zero f = refl

@@ -26,11 +26,6 @@ length-put a ys xs h =
     let t : length (take a xs) ≡ a = length-take-le a xs (omega arith) in
     rw (length-append, length-append, length-drop) (omega arith)
 
--- what stands before the place stays
-pub take-put : (a : ℕ) (ys xs : List ℕ) → a ≤ length xs → take a (put a ys xs) ≡ take a xs
-unfolding put
-take-put a ys xs h = take-at (take a xs) _ a (length-take-le a xs h)
-
 -- what was put, with what stands before it
 pub take-put-end : (a : ℕ) (ys xs : List ℕ) → a ≤ length xs → take (a + length ys) (put a ys xs) ≡ take a xs ++ ys
 unfolding put

@@ -30,14 +30,6 @@ pub packed-more : (n : ℕ) (packets : List ℕ) → packed (n + 1) packets ≡ 
 unfolding packed
 packed-more n packets = joined-more n (carried packets)
 
-pub unpacked-none : (octets : List ℕ) → unpacked 0 octets ≡ []
-unfolding unpacked
-unpacked-none octets = joined-none (restored octets)
-
-pub unpacked-more : (n : ℕ) (octets : List ℕ) → unpacked (n + 1) octets ≡ unpacked n octets ++ restored octets n
-unfolding unpacked
-unpacked-more n octets = joined-more n (restored octets)
-
 -- the first element of a part, and the part without it
 part-first : (a e : ℕ) (xs : List ℕ) → a < e → getD (part a e xs) 0 0 ≡ getD xs a 0
 part-first a e xs h =

@@ -12,10 +12,7 @@ use crate::carry::syncs_ok;
 fn size_number(rate: u16, packets: usize, octets: usize) -> u8
     ensures { λ r. ⌜ r ≡ sizeNumber rate packets octets ⌝ }
 {
-    if rate < 1 {
-        return refusal::PLAN;
-    }
-    if 11 < rate {
+    if !plan::known(rate, 11) {
         return refusal::PLAN;
     }
     if packets != 188 * plan::packets(rate) {

@@ -4,7 +4,7 @@ use mathlib.Core.Bool.{true}
 use Prim.Native.Nat.{ℕ, _+_, _-_, _%_, _≤_, _<_}
 use native.Mathlib.Nat.{mul-le-mul-left}
 use native.Mathlib.Omega.{arith}
-use borrow.Author.Tests.{le-leb, leb-true, eqb-true}
+use borrow.Author.Tests.{leb-true, eqb-true}
 use lib.Dec.{leb, eqb}
 use Rattle.lists.specs.Choice.{pick}
 use Rattle.lists.specs.ChoiceLaws.{and-left, and-right, then-zero, not-refused}
@@ -35,10 +35,6 @@ pub record Accepted (p : Plan) : Type 0 where
   pub values : every (p .count) (valuesOk p) ≡ true
   pub order : every (p .count - 1) (fallsAfter p) ≡ true
   pub total : slotsBefore p (p .count) ≡ 120
-
-pub groups-yes : (p : Plan) → 1 ≤ p .count → p .count ≤ 8 → groupsOk p ≡ true
-unfolding groupsOk
-groups-yes p l h = rw (le-leb 1 (p .count) l, le-leb (p .count) 8 h)
 
 pub accepted : (p : Plan) → planNumber p ≡ 0 → Accepted p
 unfolding planNumber groupsOk

@@ -6,7 +6,7 @@ use native.Mathlib.Omega.{arith}
 use borrow.Author.Tests.{le-leb, leb-true, eqb-false, eq-eqb, ne-eqb}
 use lib.Dec.{eqb, leb}
 use Rattle.lists.specs.Choice.{pick}
-use Rattle.lists.specs.ChoiceLaws.{and-left, and-right, then-zero, then-next, not-refused, no-cause}
+use Rattle.lists.specs.ChoiceLaws.{and-left, and-right, then-zero, not-refused, no-cause}
 use Rattle.refusal.specs.Numbers.{PLAN, DUMMY, FULL, REGISTER}
 use Rattle.dispersal.specs.Register.{maskOk, registerOk, settingsOk}
 use Rattle.plan.specs.declared.Plan.{Plan}
@@ -63,11 +63,6 @@ ready s h =
 pub ready-yes : (s : FrameState) → Ready s → stateNumber s ≡ 0
 unfolding stateNumber
 ready-yes s r = rw (sound-yes s (r .sound), le-leb (s .slot) 120 (r .left))
-
--- a sound state is refused for nothing but being full
-pub sound-next : (s : FrameState) → soundNumber s ≡ 0 → stateNumber s ≡ pick (leb (s .slot) 120) 0 FULL
-unfolding stateNumber
-sound-next s h = then-next (soundNumber s) _ h
 
 -- what a pass with number 0 had
 pub pass-ready : (s : FrameState) → passNumber s ≡ 0 → Ready s × (carries (planIn s) (s .slot) ≡ false)

@@ -1,5 +1,5 @@
 -- The frame state (document 01, "Plan and place" and "Refusal list"): opening a frame, and passing a dummy.
-use mathlib.Core.Bool.{Bool, _&&_}
+use mathlib.Core.Bool.{_&&_}
 use Prim.Native.Nat.{ℕ, _+_}
 use lib.Dec.{eqb, leb}
 use Rattle.lists.specs.Choice.{pick, andThen}

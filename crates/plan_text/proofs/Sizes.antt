@@ -1,7 +1,6 @@
 -- How large the numbers of an accepted plan's groups are, and the sums of its data and dummy slots.
 use mathlib.Core.Path.{_≡_, sym, _∙_}
-use Prim.Native.Nat.{ℕ, _+_, _*_, _-_, _≤_, _<_}
-use native.Mathlib.Nat.{mul-le-mul-left}
+use Prim.Native.Nat.{ℕ, _+_, _-_, _≤_, _<_}
 use native.Mathlib.Omega.{arith}
 use Rattle.lists.specs.CountLaws.{sum-add, sum-same}
 use Rattle.plan.specs.declared.Plan.{Plan}
@@ -14,7 +13,6 @@ pub record Sizes (p : Plan) (g : ℕ) : Type 0 where
   pub few : g < 8
   pub ends : slotsBefore p g + slotsOf p g ≤ 120
   pub carried : dataSlotsOf p g ≤ slotsOf p g
-  pub product : slotsOf p g * modulationOf p g ≤ 600
   pub modulation : modulationOf p g ≤ 5
   pub rate : rateOf p g ≤ 11
 
@@ -28,7 +26,6 @@ sizes p g n h =
       few = omega (arith, a .high);
       ends = e;
       carried = data-within p g a h;
-      product = omega (arith, mul-le-mul-left (slotsOf p g) (m .high));
       modulation = m .high;
       rate = between 1 11 (rateOf p g) (v .rate) .high;
     }

@@ -8,7 +8,7 @@ use lib.Dec.{eqb, leb, ltb}
 use lib.ListN.{length, length-append}
 use Rattle.lists.specs.Choice.{pick}
 use Rattle.lists.specs.Count.{joined}
-use Rattle.lists.specs.CountLaws.{First, first-first}
+use Rattle.lists.specs.CountLaws.{first-first}
 use Rattle.plan.specs.declared.Plan.{Plan}
 use Rattle.plan.specs.Plans.{modulationOf, rateOf}
 use Rattle.plan.specs.Places.{runFirst, runLast}

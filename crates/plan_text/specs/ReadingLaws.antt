@@ -2,17 +2,16 @@
 use mathlib.Core.Path.{_≡_, refl, sym, ap, _∙_}
 use mathlib.Core.Bool.{Bool, true, false, _||_, not}
 use mathlib.Core.List.{List}
-use Prim.Native.Nat.{ℕ, zero, suc, _+_, _-_, _*_, _^_, _<_, _≤_}
-use native.Mathlib.Nat.{pow-suc}
+use Prim.Native.Nat.{ℕ, zero, suc, _+_, _-_, _^_, _<_, _≤_}
 use native.Mathlib.Numerals.{add-one}
 use native.Mathlib.Decide.{decLt, ℕ-discrete}
 use native.Mathlib.Omega.{arith}
-use borrow.Author.Tests.{leb-true, eqb-true, lt-ltb, le-ltb}
+use borrow.Author.Tests.{eqb-true, lt-ltb, le-ltb}
 use lib.Dec.{eqb, leb, ltb}
 use lib.ListN.{length, getD, set, replicate, List·getD-eq-default, length-set, getD-replicate}
 use lib.Seq.{getD-set-same, getD-set-other}
 use Rattle.lists.specs.Choice.{pick}
-use Rattle.lists.specs.ChoiceLaws.{and-left, and-right}
+use Rattle.lists.specs.ChoiceLaws.{and-right}
 use Rattle.lists.specs.CountLaws.{table-is, getD-table, length-table}
 use Rattle.plan_text.specs.Characters.{ZERO}
 use Rattle.plan_text.specs.Numerals.{isDigit, valueOf}
@@ -65,10 +64,6 @@ field-small t at =
 -- fields end soon
 pub field-near : (t : List ℕ) (at : ℕ) → fieldEnd t at ≤ at + 4
 field-near t at = omega (arith, digits-most t at)
-
-pub field-first : (t : List ℕ) (at : ℕ) → fieldStart t at 0 ≡ at
-unfolding fieldStart
-field-first t at = refl
 
 pub field-next : (t : List ℕ) (at k : ℕ) → fieldStart t at (k + 1) ≡ fieldEnd t (fieldStart t at k)
 unfolding fieldStart

@@ -2,12 +2,11 @@
 use mathlib.Core.Path.{_≡_, refl}
 use mathlib.Core.Bool.{true, false}
 use mathlib.Core.List.{List}
-use Prim.Native.Nat.{ℕ, _+_, _-_, _<_, _≤_}
+use Prim.Native.Nat.{ℕ, _+_, _-_, _≤_}
 use native.Mathlib.Omega.{arith}
-use borrow.Author.Tests.{leb-true, le-leb, lt-leb, eq-eqb, ne-eqb}
+use borrow.Author.Tests.{leb-true, eq-eqb, ne-eqb}
 use lib.Dec.{leb}
 use lib.ListN.{length}
-use Rattle.lists.specs.ChoiceLaws.{and-both}
 use Rattle.lists.specs.Count.{every}
 use Rattle.lists.specs.CountLaws.{every-at}
 use Rattle.ldpc.specs.Tables.{rowStart, addressOk, rowOk, rowsOk, tableOk}
@@ -25,15 +24,6 @@ pub accepted : (rate : ℕ) → 1 ≤ rate → rate ≤ 11 → tableOk (rowsOf r
 accepted rate l h =
     let e : rate - 1 + 1 ≡ rate = omega arith in
     rw e at (every-at 11 (λ k. tableOk (rowsOf (k + 1)) (tableAt k)) all-accepted (rate - 1) (omega arith))
-
-pub known-yes : (rate : ℕ) → 1 ≤ rate → rate ≤ 11 → rateOk rate ≡ true
-known-yes rate l h = and-both (leb 1 rate) (leb rate 11) (le-leb 1 rate l) (le-leb rate 11 h)
-
-pub known-low : (rate : ℕ) → rate < 1 → rateOk rate ≡ false
-known-low rate h = rw (lt-leb 1 rate h)
-
-pub known-high : (rate : ℕ) → 11 < rate → rateOk rate ≡ false
-known-high rate h = rw (le-leb 1 rate (omega arith), lt-leb rate 11 h)
 
 -- no published table has more than 510 numbers
 all-short : every 11 (λ k. leb (length (tableAt k)) 510) ≡ true

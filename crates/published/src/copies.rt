@@ -46,10 +46,7 @@ fn copy_from(tables: &[u16], rate: u16, area: &mut [u16]) -> u8
     requires { ⌜ now tables ≡ joined 11 tableAt ⌝ }
     ensures { λ r. ⌜ Answered (copyNumber rate (now (area .entry))) (tableOf rate) (now (area .entry)) r (now (area .exit)) ⌝ }
 {
-    if rate < 1 {
-        return refusal::PLAN;
-    }
-    if 11 < rate {
+    if !plan::known(rate, 11) {
         return refusal::PLAN;
     }
     let k = lists::index(rate) - 1;

@@ -6,7 +6,6 @@ use native.Mathlib.Omega.{arith}
 use lib.ListN.{length, take, drop}
 use lib.Seq.{drop-at, length-take-le}
 use borrow.Rule.Slice.PartMut.{putMid}
-use Rattle.lists.specs.Parts.{put}
 use Rattle.lists.specs.PartLaws.{put-lent, put-end}
 
 pub header-first : (xs a b : List ℕ) (p : ℕ) → p ≤ length xs → length a ≡ p → length b ≡ length xs - p

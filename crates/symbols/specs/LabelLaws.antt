@@ -15,7 +15,7 @@ use Rattle.lists.specs.Runs.{Bits, Octets}
 use Rattle.bits.specs.Digits.{digits, number}
 use Rattle.bits.specs.DigitLaws.{digits-bits, number-lt, number-same, number-of-digits, digits-number}
 use Rattle.bits.specs.Octets.{bitsOf, octetsOf}
-use Rattle.bits.specs.OctetLaws.{length-bitsOf, bitsOf-bits, length-octetsOf, octetsOf-octets, octets-bits, bits-octets}
+use Rattle.bits.specs.OctetLaws.{length-bitsOf, bitsOf-bits, length-octetsOf, octets-bits, bits-octets}
 use Rattle.symbols.specs.Index.{bitAt, rowOf, placeOf}
 use Rattle.symbols.specs.IndexLaws.{bit-below, row-of-bit, place-of-bit, bit-there, row-below, place-below}
 use Rattle.symbols.specs.Labels.{bitsOfRow, labelsOf, bitsOfLabels, labelsOfOctets, octetsOfLabels}
@@ -100,12 +100,6 @@ module _ (m s : ℕ) (leftward : Bool) where
       ∙ ap (λ (i : ℕ). getD (digits m (getD labels i 0)) (placeOf m s leftward (bitAt m s leftward r k)) 0) (row-of-bit m s leftward r k h p)
       ∙ ap (λ (i : ℕ). getD (digits m (getD labels r 0)) i 0) (place-of-bit m s leftward r k h p)))))
 
-  -- labels are equal exactly where the bits are
-  pub bits-equal : (u v : List ℕ) → length u ≡ m * s → length v ≡ m * s → Bits u → Bits v
-      → (labelsOf m s leftward u ≡ labelsOf m s leftward v) ↔ (u ≡ v)
-  bits-equal u v p q y z =
-      (λ e. sym (bits-labels u p y) ∙ ap (bitsOfLabels m s leftward) e ∙ bits-labels v q z, λ e. ap (labelsOf m s leftward) e)
-
   pub length-octet-labels : (octets : List ℕ) → length (labelsOfOctets m s leftward octets) ≡ s
   unfolding labelsOfOctets
   length-octet-labels octets = length-labels (bitsOf octets)
@@ -117,10 +111,6 @@ module _ (m s : ℕ) (leftward : Bool) where
   pub length-label-octets : (n : ℕ) (labels : List ℕ) → length (octetsOfLabels n m s leftward labels) ≡ n
   unfolding octetsOfLabels
   length-label-octets n labels = length-octetsOf n (bitsOfLabels m s leftward labels)
-
-  pub label-octets-octets : (n : ℕ) (labels : List ℕ) → Octets (octetsOfLabels n m s leftward labels)
-  unfolding octetsOfLabels
-  label-octets-octets n labels = octetsOf-octets n (bitsOfLabels m s leftward labels) (label-bits-bits labels)
 
   module _ (n : ℕ) (whole : 8 * n ≡ m * s) where
     octet-bits : (octets : List ℕ) → length octets ≡ n → length (bitsOf octets) ≡ m * s

@@ -1,7 +1,5 @@
 -- `frame::slot_octets`: the place's rate and kind are the definition's.
 use mathlib.Core.Path.{_≡_, refl, sym, ap, _∙_}
-use Prim.Native.Nat.{ℕ}
-use native.Mathlib.Omega.{arith}
 use borrow.Author.Needs.{needs}
 use Rattle.plan.specs.Rates.{rowsOf}
 use Rattle.plan.specs.RateLaws.{rate-rows}

@@ -1,6 +1,5 @@
 -- `framer::first_unsynced`: packets are counted as their octets are passed.
 use Prim.Native.Nat.{_-_, _≤_}
-use native.Mathlib.Omega.{arith}
 use lib.ListN.{length}
 use borrow.Author.Needs.{needs}
 use Rattle.framer.proofs.slots.first_unsynced.Statement.{statement}

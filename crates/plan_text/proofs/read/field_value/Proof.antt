@@ -1,6 +1,5 @@
 -- `plan_text::field_value`: the digits counted make a number of at most three digits.
 use mathlib.Core.Path.{_≡_, ap, _∙_}
-use Prim.Native.Nat.{_≤_}
 use native.Mathlib.Omega.{arith}
 use borrow.Author.Needs.{needs}
 use Rattle.plan_text.specs.Numerals.{valueOf}

@@ -1,11 +1,15 @@
 -- `published::copy_from`: each refusal has its number; the part between two starts is the table.
 use mathlib.Core.Path.{_≡_, sym, ap, _∙_}
+use mathlib.Core.Bool.{true}
 use Prim.Native.Nat.{ℕ, _+_, _-_}
 use native.Mathlib.Omega.{arith}
 use borrow.Author.Needs.{needs}
+use borrow.Author.Tests.{not-true, not-false}
 use Rattle.lists.specs.CountLaws.{joinedAt}
+use Rattle.plan.specs.Rates.{rateOk}
+use Rattle.plan.specs.RateLaws.{Between, between}
 use Rattle.published.specs.Published.{tableAt, tableOf}
-use Rattle.published.specs.PublishedLaws.{known-yes, known-low, known-high, number-unknown, number-long, number-good}
+use Rattle.published.specs.PublishedLaws.{number-unknown, number-long, number-good}
 use Rattle.refusal.specs.AnswerLaws.{refused, accepted}
 use Rattle.published.proofs.Starts.{Placed, placed}
 use Rattle.published.proofs.copies.copy_from.Statement.{statement}
@@ -13,13 +17,15 @@ use Rattle.published.proofs.copies.copy_from.Tie as tie
 
 returns : tie.Need-returns
 returns c =
-    let a = c .before .before .before .args in
-    refused _ (tableOf (a .rate)) (a .area .now) 1 (sym (number-unknown (a .rate) (a .area .now) (known-low (a .rate) (c .if1 .taken)))) (λ e. omega arith)
-
-returns-2 : tie.Need-returns-2
-returns-2 c =
     let a = c .before .before .before .before .args in
-    refused _ (tableOf (a .rate)) (a .area .now) 1 (sym (number-unknown (a .rate) (a .area .now) (known-high (a .rate) (c .if2 .taken)))) (λ e. omega arith)
+    refused _ (tableOf (a .rate)) (a .area .now) 1 (sym (number-unknown (a .rate) (a .area .now) (sym (c .before .known .ensures) ∙ not-true _ (c .if1 .taken)))) (λ e. omega arith)
+
+-- the rate is known
+known : (c : tie.Else1) → rateOk (c .before .before .before .before .args .rate) ≡ true
+known c = sym (c .before .known .ensures) ∙ not-false _ (c .if1 .left)
+
+bounds : (c : tie.Else1) → Between 1 11 (c .before .before .before .before .args .rate)
+bounds c = between 1 11 _ (known c)
 
 -- the table at the rate's place
 place : (c : tie.After-start2) →
@@ -28,49 +34,51 @@ place : (c : tie.After-start2) →
 place c =
     let s = c .before .before .before .before .before .before .before in
     let e : c .before .before .index .result - 1 ≡ s .args .rate - 1 = ap (λ (n : ℕ). n - 1) (c .before .before .index .ensures .0) in
-    placed (s .args .tables .now) (s .args .rate - 1) (c .before .start .result) (c .start2 .result) (s .pre) (omega arith)
+    placed (s .args .tables .now) (s .args .rate - 1) (c .before .start .result) (c .start2 .result) (s .pre) (omega (arith, bounds (c .before .before .before)))
     (c .before .start .ensures ∙ ap (joinedAt tableAt) e)
     (c .start2 .ensures ∙ ap (λ (n : ℕ). joinedAt tableAt (n + 1)) e)
 
-returns-3 : tie.Need-returns-3
-returns-3 c =
+returns-2 : tie.Need-returns-2
+returns-2 c =
     let a = c .before .before .before .before .before .before .before .before .args in
     let p = place (c .before) in
+    let k = known (c .before .before .before .before) in
     refused _ (tableOf (a .rate)) (a .area .now) 4
-    (sym (number-long (a .rate) (a .area .now) (known-yes (a .rate) (search needs) (search needs)) (λ e. c .if3 .taken (e ∙ sym (p .long)))))
+    (sym (number-long (a .rate) (a .area .now) k (λ e. c .if2 .taken (e ∙ sym (p .long)))))
     (λ e. omega arith)
 
 copy-requires : tie.Need-copy-requires
 copy-requires c κs =
     let p = place (c .before .before .before) in
-    rw (p .there) (c .before .before .if3 .left ∙ p .long)
+    rw (p .there) (c .before .before .if2 .left ∙ p .long)
 
-returns-4 : tie.Need-returns-4
-returns-4 c =
+returns-3 : tie.Need-returns-3
+returns-3 c =
     let e = c .before .before .before .before .before in
     let a = e .before .before .before .before .before .before .before .before .args in
     let p = place (e .before) in
+    let k = known (e .before .before .before .before) in
     accepted _ (tableOf (a .rate)) (a .area .now) _
-    (number-good (a .rate) (a .area .now) (known-yes (a .rate) (search needs) (search needs)) (e .if3 .left ∙ p .long))
+    (number-good (a .rate) (a .area .now) k (e .if2 .left ∙ p .long))
     (c .before .before .copy .ensures ∙ p .there)
 
 pub copy-from-spec : {M : Type 1} → statement M
 copy-from-spec =
     tie.close
     (tie.spec
+    (λ c κs. search needs)
     returns
-    returns-2
     (λ c κs. search needs)
+    (λ c. omega (arith, bounds (c .before), c .index .ensures))
+    (λ c κs. omega (arith, bounds (c .before), c .index .ensures))
     (λ c. search needs)
-    (λ c κs. search needs)
-    (λ c. search needs)
-    (λ c κs. search needs)
+    (λ c κs. omega (arith, bounds (c .before .before), c .before .index .ensures))
     (λ c. place c .order)
-    returns-3
+    returns-2
     (λ c. omega (arith, place (c .before)))
     (λ c. omega (arith, place (c .before)))
     (λ c. omega (arith, place (c .before)))
     (λ c. omega (arith, place (c .before)))
     copy-requires
     (λ c. search needs)
-    returns-4)
+    returns-3)

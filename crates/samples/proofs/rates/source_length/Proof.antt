@@ -1,5 +1,5 @@
 -- `samples::source_length`: no rate has more than 109 rows.
-use Prim.Native.Nat.{ℕ, _+_, _≤_}
+use Prim.Native.Nat.{ℕ, _≤_}
 use native.Mathlib.Omega.{arith}
 use borrow.Author.Needs.{needs}
 use Rattle.plan.specs.Rates.{dataBitsOf, dataOctetsOf}

@@ -1,17 +1,15 @@
 -- `slot_vectors::remake`: the area still holds bits once the parity, bits too, is put behind those that it is made of.
-use mathlib.Core.Path.{_≡_, sym, ap, subst, _∙_}
+use mathlib.Core.Path.{_≡_, _∙_}
 use mathlib.Core.List.{List, _++_}
 use Prim.Native.Nat.{ℕ, _-_, _*_}
-use native.Mathlib.Omega.{arith}
 use borrow.Author.Needs.{needs}
-use borrow.Rule.Slice.PartMut.{putMid, postOf, same-len-mid}
+use borrow.Rule.Slice.PartMut.{putMid, postOf}
 use lib.ListN.{length, take}
 use lib.Seq.{take-at}
 use Rattle.lists.specs.Runs.{Bits}
 use Rattle.lists.specs.RunLaws.{below-take, below-drop, below-append}
 use Rattle.bits.specs.OctetLaws.{bitsOf-bits}
-use Rattle.ldpc.specs.Tables.{positions}
-use Rattle.ldpc.specs.ParityLaws.{length-parityOf, parityOf-bits}
+use Rattle.ldpc.specs.ParityLaws.{parityOf-bits}
 use Rattle.plan.specs.Sizes.{slotBits}
 use Rattle.slot_vectors.proofs.anew.remake.Statement.{statement}
 use Rattle.slot_vectors.proofs.anew.remake.Tie as tie
