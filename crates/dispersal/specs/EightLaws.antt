@@ -180,6 +180,21 @@ after-fed w mask r (suc n) l h =
     ∙ shift-mod (r * 2 ^ n + fed) f (2 ^ w)
     ∙ ap (λ (x : ℕ). x % 2 ^ w) e
 
+-- bit k of n, the first being the highest
+pub digit-at : (n x k : ℕ) → k < n → getD (digits n x) k 0 ≡ x / 2 ^ (n - 1 - k) % 2
+unfolding digits
+digit-at zero x k h = absurd (omega arith)
+digit-at (suc n) x zero h =
+    let e : 1 + n ≡ suc n = omega arith in
+    let f : digits (suc n) x ≡ x / 2 ^ n % 2 ∷ digits n x = rw e at (digits-add 1 n x) in
+    let d : suc n - 1 - zero ≡ n = omega arith in
+    rw (f, d)
+digit-at (suc n) x (suc k) h =
+    let e : 1 + n ≡ suc n = omega arith in
+    let f : digits (suc n) x ≡ x / 2 ^ n % 2 ∷ digits n x = rw e at (digits-add 1 n x) in
+    let d : suc n - 1 - suc k ≡ n - 1 - k = omega arith in
+    rw (f, d) (digit-at n x k (omega arith))
+
 -- the top n bits after a step stood one place lower before it
 step-down : (w mask r n m : ℕ) → w ≡ n + suc m → digits n (step w mask r / 2 ^ suc m) ≡ digits n (r / 2 ^ m)
 unfolding step
