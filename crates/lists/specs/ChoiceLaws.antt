@@ -1,7 +1,7 @@
 -- Laws of choosing by a test: what a number 0 says of the tests on the way to it.
 use mathlib.Core.Path.{_≡_, refl, sym, _∙_}
 use mathlib.Core.Bool.{Bool, true, false, _&&_, false≢true}
-use Prim.Native.Nat.{ℕ, suc, _<_}
+use Prim.Native.Nat.{ℕ, _<_}
 use native.Mathlib.Decide.{ℕ-discrete}
 use native.Mathlib.Omega.{arith}
 use borrow.Author.Tests.{eq-eqb, ne-eqb}
@@ -35,11 +35,6 @@ same-test false false f g = refl
 pub pick-same : {A : Type 0} (t : Bool) (a : A) → pick t a a ≡ a
 pick-same true a = refl
 pick-same false a = refl
-
--- a test whose failure is the refusal n + 1
-pub pick-yes : (t : Bool) (a n : ℕ) → pick t a (suc n) ≡ 0 → (t ≡ true) × (a ≡ 0)
-pick-yes true a n h = (refl, h)
-pick-yes false a n h = absurd (omega arith)
 
 -- where the answer is 0, a test whose failure is refused held, whatever the refusal's number
 pub not-refused : (t : Bool) (n : ℕ) → 0 < n → pick t 0 n ≡ 0 → t ≡ true
