@@ -5,12 +5,11 @@ use mathlib.Core.List.{List}
 use Prim.Native.Nat.{ℕ, _*_, _^_, _<_, _≤_}
 use lib.ListN.{length, take}
 use Rattle.lists.specs.Runs.{Bits}
-use Rattle.bits.specs.Octets.{bitsOf}
 use Rattle.ldpc.specs.Tables.{positions, tableOk}
 use Rattle.codeword.specs.declared.Shape.{Shape}
 use Rattle.codeword.specs.Words.{runBits, registerAfter}
 use Rattle.codeword.specs.WordLaws.{Fits}
-use Rattle.codeword.specs.Reading.{takenOff, wrongPosition}
+use Rattle.codeword.specs.Reading.{takenOff, wordNumber}
 
 -- the bits before the parity, and an area for the parity input
 pub record Input (F : Shape) (run input : List ℕ) : Type 0 where
@@ -31,16 +30,16 @@ pub record Coding (F : Shape) (r : ℕ) (t bits input coded : List ℕ) : Type 0
   pub held : r < 2 ^ F .width
   pub coded-long : length coded ≡ F .octets
 
--- what the parity check is lent: an area for the sums too
-pub record Checked (F : Shape) (t bits input sums : List ℕ) : Type 0 where
+-- what the parity check is lent: the word's octets, and an area for the sums too
+pub record Checked (F : Shape) (t coded bits input sums : List ℕ) : Type 0 where
   pub lent : Lent F t bits input
   pub sums-long : length sums ≡ positions (F .rows)
-
--- the same, with a register and the word's octets
-pub record Received (F : Shape) (r : ℕ) (t coded bits input sums : List ℕ) : Type 0 where
-  pub checked : Checked F t bits input sums
-  pub held : r < 2 ^ F .width
   pub coded-long : length coded ≡ F .octets
+
+-- the same, with a register
+pub record Received (F : Shape) (r : ℕ) (t coded bits input sums : List ℕ) : Type 0 where
+  pub checked : Checked F t coded bits input sums
+  pub held : r < 2 ^ F .width
 
 -- the bits before the parity
 pub record Run (F : Shape) (run : List ℕ) : Type 0 where
@@ -48,9 +47,8 @@ pub record Run (F : Shape) (run : List ℕ) : Type 0 where
   pub long : length run ≡ runBits F
   pub bits : Bits run
 
--- a word's parity looked at, and its dispersal taken off: lowest wrong position, register and bits
-pub record BareOf (F : Shape) (t : List ℕ) (mask r : ℕ) (c : List ℕ) (w g : ℕ) (bits : List ℕ) : Type 0 where
-  pub wrong : w ≡ wrongPosition F t (bitsOf c)
+-- a word read: its number, the register after it, and its bits with dispersal taken off
+pub record ReadOf (F : Shape) (t : List ℕ) (mask r : ℕ) (c : List ℕ) (n g : ℕ) (bits : List ℕ) : Type 0 where
+  pub number : n ≡ wordNumber F t mask r c
   pub register : g ≡ registerAfter F mask r
   pub plain : take (runBits F) bits ≡ takenOff F mask r c
-  pub long : length bits ≡ 8 * F .octets

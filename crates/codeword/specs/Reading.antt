@@ -39,10 +39,10 @@ bchIn F u = part (F .message) (F .message + 192) u
 abbrev pub tailIn : Shape → List ℕ → List ℕ
 tailIn F u = drop (F .message + 192) u
 
--- the lowest position at which the parity of a word's bits is wrong, or M: "The parity check stops where the first wrong
--- position shows"
+-- the lowest position at which the parity of a word is wrong, or M: "The parity check stops where the first wrong position
+-- shows"
 unfoldable pub wrongPosition : Shape → List ℕ → List ℕ → ℕ
-wrongPosition F t u = lowestWrong (F .rows) t (parityInput F (take (runBits F) u)) (drop (runBits F) u)
+wrongPosition F t c = lowestWrong (F .rows) t (parityInput F (runIn F c)) (parityIn F c)
 
 -- 8: "some LDPC parity bit is wrong", from the lowest wrong position
 unfoldable pub parityNumber : Shape → ℕ → ℕ
@@ -57,7 +57,7 @@ unfoldable pub checksNumber : Shape → ℕ → List ℕ → ℕ
 checksNumber F wrong u = andThen (parityNumber F wrong) (pick (bchRight F u) 0 BCH)
 
 unfoldable pub wordNumber : Shape → List ℕ → ℕ → ℕ → List ℕ → ℕ
-wordNumber F t mask r c = checksNumber F (wrongPosition F t (bitsOf c)) (takenOff F mask r c)
+wordNumber F t mask r c = checksNumber F (wrongPosition F t c) (takenOff F mask r c)
 
 -- "the differing bits reach each position an even number of times": those of two words' parity inputs, as sent
 abbrev pub EvenTimes : Shape → List ℕ → List ℕ → List ℕ → Type 0

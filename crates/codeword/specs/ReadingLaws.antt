@@ -68,11 +68,11 @@ module _ (F : Shape) (c : List ℕ) (f : Fits F) (l : length c ≡ F .octets) wh
     tailIn-long = length-drop (F .message + 192) (takenOff F mask r c) ∙ omega (arith, takenOff-long)
 
   -- 8: the parity received is that of the bits received before it
-  pub parity-right : (t : List ℕ) → (parityNumber F (wrongPosition F t (bitsOf c)) ≡ 0) ↔ (parityIn F c ≡ parityOf (F .rows) t (parityInput F (runIn F c)))
+  pub parity-right : (t : List ℕ) → (parityNumber F (wrongPosition F t c) ≡ 0) ↔ (parityIn F c ≡ parityOf (F .rows) t (parityInput F (runIn F c)))
   unfolding wrongPosition parityNumber
   parity-right t =
       let none = lowestWrong-none (F .rows) t (parityInput F (runIn F c)) (parityIn F c) parityIn-long in
-      let least = wrongPosition F t (bitsOf c) in (
+      let least = wrongPosition F t c in (
         (λ h. none .0 (eqb-true least (positions (F .rows)) (not-refused (eqb least (positions (F .rows))) PARITY (omega arith) h))),
         (λ e. rw (eq-eqb least (positions (F .rows)) (none .1 e))),
       )
@@ -96,7 +96,7 @@ word-good F t mask r c f l =
     let p = parity-right F c f l t in
     let b = bch-right F u in (
       (λ h.
-          let a = then-zero (parityNumber F (wrongPosition F t (bitsOf c))) _ h in
+          let a = then-zero (parityNumber F (wrongPosition F t c)) _ h in
           record { parity = p .0 (a .0); bch = b .0 (not-refused (bchRight F u) BCH (omega arith) (a .1)) }),
       (λ g. rw (p .1 (g .parity), b .1 (g .bch))),
     )

@@ -6,10 +6,9 @@ mod reading;
 mod sizes;
 
 pub use coding::put_word;
-pub use reading::bare;
-pub use reading::checks_number;
-pub use reading::first_wrong;
 pub use reading::parity_number;
+pub use reading::read_word;
+pub use reading::wrong_position;
 pub use sizes::run_bits;
 
 // The sizes of a codeword: the width of the dispersal register, the rows of the parity table, the bits of the message
@@ -24,9 +23,8 @@ pub struct Shape {
     pub octets: usize,
 }
 
-// A received word with its dispersal taken off: the lowest wrong parity position as received, and the register after
-// the word.
-pub struct Bared {
-    pub wrong: usize,
+// A received word, read: the refusal of its parity or BCH bits, or 0, and the register after it.
+pub struct WordRead {
+    pub number: u8,
     pub register: u32,
 }

@@ -1,25 +1,30 @@
 // Reading a received word: its parity, its dispersal, its BCH bits.
 ghost use mathlib.Core.Path.{_≡_};
+ghost use Rattle.bits.specs.Octets.{bitsOf};
 ghost use Rattle.codeword.specs.Reading.{wrongPosition, parityNumber, checksNumber};
 ghost use Rattle.codeword.specs.WordLaws.{Fits};
-ghost use Rattle.codeword.specs.Needs.{Checked, Received, Run, BareOf};
-use crate::Bared;
+ghost use Rattle.codeword.specs.Needs.{Checked, Received, Run, ReadOf};
 use crate::Shape;
+use crate::WordRead;
 use crate::input::put_input;
 use crate::sizes::run_bits;
 
-// The lowest position at which the parity of a word's bits is wrong, or M where there is none.
-pub fn first_wrong(
+// The lowest position at which the parity of a received word is wrong, or M where there is none. Its bits are left in
+// their area.
+pub fn wrong_position(
     shape: Shape,
     table: &[u16],
-    bits: &[u8],
+    coded: &[u8],
+    bits: &mut [u8],
     input: &mut [u8],
     sums: &mut [u8],
 ) -> usize
-    requires { ⌜ Checked shape (now table) (now bits) (now input) (now sums) ⌝ }
-    ensures { λ r. ⌜ r ≡ wrongPosition shape (now (table .entry)) (now (bits .entry)) ⌝ }
+    requires { ⌜ Checked shape (now table) (now coded) (now bits) (now input) (now sums) ⌝ }
+    ensures { λ r. ⌜ r ≡ wrongPosition shape (now (table .entry)) (now (coded .entry)) ⌝ }
+    ensures { λ _. ⌜ now (bits .exit) ≡ bitsOf (now (coded .entry)) ⌝ }
 {
     let run = run_bits(shape);
+    bits::expand(coded, bits);
     put_input(shape, &bits[0..run], input);
     ldpc::lowest_wrong(shape.rows, table, input, &bits[run..], sums)
 }
@@ -35,33 +40,8 @@ pub fn parity_number(shape: Shape, wrong: usize) -> u8
     refusal::PARITY
 }
 
-// The parity is checked as received. Whatever that shows, dispersal is then taken off the bits before the parity, so
-// that the register steps on over a damaged word as over a good one.
-pub fn bare(
-    shape: Shape,
-    table: &[u16],
-    mask: u32,
-    register: u32,
-    coded: &[u8],
-    bits: &mut [u8],
-    input: &mut [u8],
-    sums: &mut [u8],
-) -> Bared
-    requires { ⌜ Received shape register (now table) (now coded) (now bits) (now input) (now sums) ⌝ }
-    ensures { λ r. ⌜ BareOf shape (now (table .entry)) mask register (now (coded .entry)) (r .wrong) (r .register) (now (bits .exit)) ⌝ }
-{
-    let run = run_bits(shape);
-    bits::expand(coded, bits);
-    let wrong = first_wrong(shape, table, bits, input, sums);
-    let next = dispersal::disperse(shape.width, mask, register, &mut bits[0..run]);
-    Bared {
-        wrong,
-        register: next,
-    }
-}
-
 // The refusal of parity or BCH bits, in this order, or 0.
-pub fn checks_number(shape: Shape, wrong: usize, run: &[u8]) -> u8
+fn checks_number(shape: Shape, wrong: usize, run: &[u8]) -> u8
     requires { ⌜ Run shape (now run) ⌝ }
     ensures { λ r. ⌜ r ≡ checksNumber shape wrong (now (run .entry)) ⌝ }
 {
@@ -75,4 +55,30 @@ pub fn checks_number(shape: Shape, wrong: usize, run: &[u8]) -> u8
         return 0;
     }
     refusal::BCH
+}
+
+// Reads a word: message, BCH bits and tail are left at the head of the bits' area. The parity is checked as received.
+// Whatever that shows, dispersal is then taken off the bits before it, so that the register steps on over a damaged
+// word as over a good one.
+pub fn read_word(
+    shape: Shape,
+    table: &[u16],
+    mask: u32,
+    register: u32,
+    coded: &[u8],
+    bits: &mut [u8],
+    input: &mut [u8],
+    sums: &mut [u8],
+) -> WordRead
+    requires { ⌜ Received shape register (now table) (now coded) (now bits) (now input) (now sums) ⌝ }
+    ensures { λ r. ⌜ ReadOf shape (now (table .entry)) mask register (now (coded .entry)) (r .number) (r .register) (now (bits .exit)) ⌝ }
+{
+    let run = run_bits(shape);
+    let wrong = wrong_position(shape, table, coded, bits, input, sums);
+    let next = dispersal::disperse(shape.width, mask, register, &mut bits[0..run]);
+    let number = checks_number(shape, wrong, &bits[0..run]);
+    WordRead {
+        number,
+        register: next,
+    }
 }

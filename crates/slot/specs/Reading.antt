@@ -35,7 +35,7 @@ sourceOf R mask r c = octetsOf (sourceOctets R) (messageIn (slotShape R) (takenO
 
 -- 8 alone, whatever the slot's dispersal
 unfoldable pub checkedNumber : ℕ → List ℕ → List ℕ → ℕ
-checkedNumber R t c = parityNumber (slotShape R) (wrongPosition (slotShape R) t (bitsOf c))
+checkedNumber R t c = parityNumber (slotShape R) (wrongPosition (slotShape R) t c)
 
 -- the numbers with which a reading moves on: 0, and "8, 9 and 10 move the slot reader on one place"
 abbrev pub MovesOn : ℕ → Type 0

@@ -78,7 +78,7 @@ unfolding receivedNumber wordNumber checksNumber parityNumber
 received-numbers R t mask r c =
     let F = slotShape R in
     let u = takenOff F mask r c in
-    one-of-four (eqb (wrongPosition F t (bitsOf c)) (positions R)) (bchRight F u) (stuffRight R u)
+    one-of-four (eqb (wrongPosition F t c) (positions R)) (bchRight F u) (stuffRight R u)
 
 -- header and data octets of a received slot
 pub sourceOf-source : (R mask r : ℕ) (c : List ℕ) → Source R (sourceOf R mask r c)

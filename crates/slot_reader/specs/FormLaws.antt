@@ -1,5 +1,5 @@
--- Laws of the lone check's number, and of a received slot's.
-use mathlib.Core.Path.{_≡_, refl, sym, ap, _∙_}
+-- Laws of the lone check's number.
+use mathlib.Core.Path.{_≡_, sym, ap, _∙_}
 use mathlib.Core.Bool.{true}
 use mathlib.Core.List.{List}
 use Prim.Native.Nat.{ℕ}
@@ -10,21 +10,12 @@ use borrow.Author.Tests.{eqb-true}
 use Rattle.lists.specs.Choice.{pick, andThen}
 use Rattle.lists.specs.ChoiceLaws.{not-refused, then-zero, then-assoc}
 use Rattle.refusal.specs.Numbers.{PLAN, LENGTH, TABLE}
-use Rattle.bits.specs.Octets.{bitsOf}
 use Rattle.ldpc.specs.Tables.{tableOk}
 use Rattle.plan.specs.Rates.{rateOk, rowsOf}
 use Rattle.plan.specs.Sizes.{slotOctets}
-use Rattle.codeword.specs.Reading.{takenOff, wrongPosition, wordNumber}
-use Rattle.slot.specs.Slots.{slotShape}
-use Rattle.slot.specs.Reading.{receivedNumber, checkedNumber}
+use Rattle.slot.specs.Reading.{checkedNumber}
 use Rattle.slot.specs.Calls.{checkNumber}
-use Rattle.slot_reader.specs.Forms.{formNumber, plainNumber}
-
--- the number of the bits with dispersal taken off is the received slot's
-pub plainNumber-is : (R : ℕ) (t : List ℕ) (mask r : ℕ) (c : List ℕ)
-    → plainNumber R (wrongPosition (slotShape R) t (bitsOf c)) (takenOff (slotShape R) mask r c) ≡ receivedNumber R t mask r c
-unfolding plainNumber receivedNumber wordNumber
-plainNumber-is R t mask r c = refl
+use Rattle.slot_reader.specs.Forms.{formNumber}
 
 pub checkNumber-is : (rate : ℕ) (t c : List ℕ) → checkNumber rate t c ≡ andThen (formNumber rate t c) (checkedNumber (rowsOf rate) t c)
 unfolding checkNumber formNumber

@@ -5,13 +5,12 @@ use Prim.Native.Nat.{ℕ}
 use lib.Dec.{eqb}
 use lib.ListN.{length}
 use Rattle.lists.specs.Choice.{pick, andThen}
-use Rattle.refusal.specs.Numbers.{PLAN, LENGTH, TABLE, STUFF}
+use Rattle.refusal.specs.Numbers.{PLAN, LENGTH, TABLE}
 use Rattle.ldpc.specs.Tables.{tableOk}
 use Rattle.plan.specs.Rates.{rateOk, rowsOf}
 use Rattle.plan.specs.Sizes.{slotOctets}
-use Rattle.codeword.specs.Reading.{checksNumber}
-use Rattle.slot.specs.Slots.{slotShape, registerAfter}
-use Rattle.slot.specs.Reading.{stuffRight, receivedNumber, sourceOf}
+use Rattle.slot.specs.Slots.{registerAfter}
+use Rattle.slot.specs.Reading.{receivedNumber, sourceOf}
 
 -- "Lone parity check: 1, 4, 5": what is tested before the parity
 unfoldable pub formNumber : ℕ → List ℕ → List ℕ → ℕ
@@ -19,10 +18,6 @@ formNumber rate t c =
     andThen (pick (rateOk rate) 0 PLAN)
     (andThen (pick (eqb (length c) slotOctets) 0 LENGTH)
     (pick (tableOk (rowsOf rate) t) 0 TABLE))
-
--- 8, 9 and 10 in this order, from the lowest wrong position and the bits with dispersal taken off
-unfoldable pub plainNumber : ℕ → ℕ → List ℕ → ℕ
-plainNumber R wrong u = andThen (checksNumber (slotShape R) wrong u) (pick (stuffRight R u) 0 STUFF)
 
 -- a slot read: number, register and area are those of the definitions
 pub record ReadOf (R : ℕ) (t : List ℕ) (mask r : ℕ) (c source : List ℕ) (n g : ℕ) (left : List ℕ) : Type 0 where

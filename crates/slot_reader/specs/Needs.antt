@@ -26,13 +26,9 @@ pub record Readable (R r : ℕ) (t coded bits input sums source : List ℕ) : Ty
   pub held : r < 2 ^ slotWidth
   pub long : length source ≡ sourceOctets R
 
--- the bits before the parity
-pub record Plain (R : ℕ) (run : List ℕ) : Type 0 where
-  pub rate : Rows R
-  pub all : length run ≡ runBits (slotShape R)
-  pub bits : Bits run
-
--- the same, with an area for header and data octets
+-- the bits before the parity, and an area for header and data octets
 pub record Taken (R : ℕ) (plain source : List ℕ) : Type 0 where
-  pub run : Plain R plain
+  pub rate : Rows R
+  pub all : length plain ≡ runBits (slotShape R)
+  pub bits : Bits plain
   pub long : length source ≡ sourceOctets R

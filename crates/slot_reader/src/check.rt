@@ -36,10 +36,10 @@ fn checked_number(
     let shape = slot::shape(rows);
     let end = 374 * rows;
     let positions = 374 * (120 - rows);
-    bits::expand(coded, bits);
-    let wrong = codeword::first_wrong(
+    let wrong = codeword::wrong_position(
         shape,
         table,
+        coded,
         bits,
         &mut input[0..end],
         &mut sums[0..positions],

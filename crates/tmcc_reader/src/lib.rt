@@ -35,13 +35,11 @@ fn read(
     requires { ⌜ Readable start (now table) (now block) (now bits) (now input) (now sums) (now source) ⌝ }
     ensures { λ r. ⌜ Answered (wordNumber blockShape (now (table .entry)) mask start (now (block .entry))) (sourceOf mask start (now (block .entry))) (now (source .entry)) r (now (source .exit)) ⌝ }
 {
-    let shape = tmcc::shape();
-    let bared = codeword::bare(shape, table, mask, start, block, bits, input, sums);
-    let number = codeword::checks_number(shape, bared.wrong, &bits[0..RUN_BITS]);
-    if number == 0 {
+    let word = codeword::read_word(tmcc::shape(), table, mask, start, block, bits, input, sums);
+    if word.number == 0 {
         put_source(&mut bits[0..RUN_BITS], source);
     }
-    number
+    word.number
 }
 
 // Reads a block: the 1,178 octets of its TMCC bits; a refusal leaves them as they were.

@@ -50,16 +50,4 @@ returns c =
     w .put-word .ensures .1 ∙ rw (h .shape .ensures, plain-held (h .before .before .before))
 
 pub put-block-spec : {M : Type 1} → statement M
-put-block-spec =
-    tie.close
-    (tie.spec
-    (λ c. search needs)
-    (λ c. search needs)
-    (λ c. search needs)
-    (λ c κs. search needs)
-    (λ c κs. search needs)
-    put-word-requires
-    (λ c. search needs)
-    (λ c. search needs)
-    (λ c. search needs)
-    returns)
+put-block-spec = tie.close (tie.spec (λ c. search needs) (λ c. search needs) (λ c. search needs) (λ c κs. search needs) (λ c κs. search needs) put-word-requires (λ c. search needs) (λ c. search needs) (λ c. search needs) returns)

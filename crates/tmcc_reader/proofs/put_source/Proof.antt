@@ -45,17 +45,4 @@ returns c =
     o .collect .ensures ∙ ap₂ octetsOf (f .before .before .before .before .pre .source-long) (held f)
 
 pub put-source-spec : {M : Type 1} → statement M
-put-source-spec =
-    tie.close
-    (tie.spec
-    (λ c. search needs)
-    (λ c. search needs)
-    (λ c. search needs)
-    (λ c κs. search needs)
-    (λ c. search needs)
-    (λ c. search needs)
-    (λ c. search needs)
-    collect-requires
-    (λ c. search needs)
-    (λ c. search needs)
-    returns)
+put-source-spec = tie.close (tie.spec (λ c. search needs) (λ c. search needs) (λ c. search needs) (λ c κs. search needs) (λ c. search needs) (λ c. search needs) (λ c. search needs) collect-requires (λ c. search needs) (λ c. search needs) returns)

@@ -32,9 +32,9 @@ read-requires c κs =
         checked = record {
           lent = record { fits = fits; table = l .table; bits-long = length-replicate {A = ℕ} 31680 0; room = length-replicate {A = ℕ} 22814 0 };
           sums-long = length-replicate {A = ℕ} 22066 0;
+          coded-long = l .block-long;
         };
         held = register-is 15 (a .start) (l .start-ok) .high;
-        coded-long = l .block-long;
       };
       source-long = l .source-long;
     }
@@ -46,15 +46,4 @@ returns-2 c =
     rw (then-next _ _ (passed (r .before .before .before .before .before))) (r .read .ensures)
 
 pub read-block-spec : {M : Type 1} → statement M
-read-block-spec =
-    tie.close
-    (tie.spec
-    (λ c κs. search needs)
-    (λ c. search needs)
-    returns
-    (λ c. search needs)
-    (λ c. search needs)
-    (λ c. search needs)
-    read-requires
-    (λ c. search needs)
-    returns-2)
+read-block-spec = tie.close (tie.spec (λ c κs. search needs) (λ c. search needs) returns (λ c. search needs) (λ c. search needs) (λ c. search needs) read-requires (λ c. search needs) returns-2)

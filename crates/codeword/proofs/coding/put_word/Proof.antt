@@ -75,17 +75,4 @@ returns c =
     (d .disperse .ensures .0 ∙ ap (after (a .shape .width) (a .mask) (a .register)) l, r .collect .ensures ∙ ap₂ octetsOf (s .pre .coded-long) (whole q))
 
 pub put-word-spec : {M : Type 1} → statement M
-put-word-spec =
-    tie.close
-    (tie.spec
-    (λ c κs. search needs)
-    (λ c. search needs)
-    (λ c. search needs)
-    (λ c. search needs)
-    (λ c κs. search needs)
-    (λ c κs. search needs)
-    collect-requires
-    (λ c. search needs)
-    (λ c. search needs)
-    (λ c. search needs)
-    returns)
+put-word-spec = tie.close (tie.spec (λ c κs. search needs) (λ c. search needs) (λ c. search needs) (λ c. search needs) (λ c κs. search needs) (λ c κs. search needs) collect-requires (λ c. search needs) (λ c. search needs) (λ c. search needs) returns)

@@ -41,18 +41,4 @@ returns-3 c =
     rw (← e .before .parity-number .ensures, e .if1 .left, ← tested (c .before), c .if2 .left)
 
 pub checks-number-spec : {M : Type 1} → statement M
-checks-number-spec =
-    tie.close
-    (tie.spec
-    (λ c κs. search needs)
-    returns
-    (λ c. search needs)
-    (λ c. search needs)
-    (λ c. search needs)
-    (λ c. search needs)
-    (λ c. search needs)
-    (λ c. search needs)
-    (λ c. search needs)
-    right-requires
-    returns-2
-    returns-3)
+checks-number-spec = tie.close (tie.spec (λ c κs. search needs) returns (λ c. search needs) (λ c. search needs) (λ c. search needs) (λ c. search needs) (λ c. search needs) (λ c. search needs) (λ c. search needs) right-requires returns-2 returns-3)

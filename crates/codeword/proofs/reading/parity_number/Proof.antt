@@ -19,10 +19,4 @@ unfolding parityNumber
 returns-2 c = rw (ne-eqb _ _ (c .if1 .left))
 
 pub parity-number-spec : {M : Type 1} → statement M
-parity-number-spec =
-    tie.close
-    (tie.spec
-    (λ c. search needs)
-    (λ c. search needs)
-    returns
-    returns-2)
+parity-number-spec = tie.close (tie.spec (λ c. search needs) (λ c. search needs) returns returns-2)

@@ -97,22 +97,4 @@ returns c =
     ∙ ap₂ (λ (p q : List ℕ). p ++ q) i (ap₂ (λ (p q : List ℕ). p ++ q) j k)
 
 pub put-plain-spec : {M : Type 1} → statement M
-put-plain-spec =
-    tie.close
-    (tie.spec
-    (λ c κs. search needs)
-    (λ c. omega (arith, ends c))
-    (λ c. search needs)
-    (λ c. search needs)
-    (λ c. omega (arith, ends c))
-    expand-requires
-    (λ c. search needs)
-    (λ c. search needs)
-    part-of-octets-end
-    of-octets-requires
-    (λ c. omega (arith, ends (c .before .before .before .before .before .before .before .before) .run))
-    (λ c. omega (arith, ends (c .before .before .before .before .before .before .before .before) .run))
-    (λ c. omega (arith, twice (c .before .before)))
-    (λ c κs. search needs)
-    (λ c. search needs)
-    returns)
+put-plain-spec = tie.close (tie.spec (λ c κs. search needs) (λ c. omega (arith, ends c)) (λ c. search needs) (λ c. search needs) (λ c. omega (arith, ends c)) expand-requires (λ c. search needs) (λ c. search needs) part-of-octets-end of-octets-requires (λ c. omega (arith, ends (c .before .before .before .before .before .before .before .before) .run)) (λ c. omega (arith, ends (c .before .before .before .before .before .before .before .before) .run)) (λ c. omega (arith, twice (c .before .before))) (λ c κs. search needs) (λ c. search needs) returns)

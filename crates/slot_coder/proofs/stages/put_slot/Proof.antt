@@ -93,21 +93,4 @@ returns c =
     )
 
 pub put-slot-spec : {M : Type 1} → statement M
-put-slot-spec =
-    tie.close
-    (tie.spec
-    (λ c κs. search needs)
-    run-bits-requires
-    (λ c. omega (arith, room c))
-    (λ c. search needs)
-    (λ c. search needs)
-    (λ c. omega (arith, room c))
-    put-plain-requires
-    (λ c. search needs)
-    (λ c. search needs)
-    (λ c. omega (arith, room (c .before .before .before .before .before), c .before .before .before .before .before .before .before .before .before .before .before .before .pre .input-long))
-    put-word-requires
-    (λ c. search needs)
-    (λ c. search needs)
-    (λ c. search needs)
-    returns)
+put-slot-spec = tie.close (tie.spec (λ c κs. search needs) run-bits-requires (λ c. omega (arith, room c)) (λ c. search needs) (λ c. search needs) (λ c. omega (arith, room c)) put-plain-requires (λ c. search needs) (λ c. search needs) (λ c. omega (arith, room (c .before .before .before .before .before), c .before .before .before .before .before .before .before .before .before .before .before .before .pre .input-long)) put-word-requires (λ c. search needs) (λ c. search needs) (λ c. search needs) returns)

@@ -44,14 +44,4 @@ returns-2 c =
     ∙ sym (checkNumber-is (a .rate) (a .table .now) (a .coded .now) ∙ then-next _ _ (passed (n .before)))
 
 pub check-parity-spec : {M : Type 1} → statement M
-check-parity-spec =
-    tie.close
-    (tie.spec
-    (λ c κs. search needs)
-    returns
-    (λ c κs. search needs)
-    (λ c. search needs)
-    (λ c. search needs)
-    (λ c. search needs)
-    checked-number-requires
-    returns-2)
+check-parity-spec = tie.close (tie.spec (λ c κs. search needs) returns (λ c κs. search needs) (λ c. search needs) (λ c. search needs) (λ c. search needs) checked-number-requires returns-2)

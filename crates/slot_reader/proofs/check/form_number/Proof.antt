@@ -53,13 +53,4 @@ returns-4 c =
     rw (known (w .before), eq-eqb _ 5610 (w .if2 .left), ← accepted (c .before), c .if3 .left)
 
 pub form-number-spec : {M : Type 1} → statement M
-form-number-spec =
-    tie.close
-    (tie.spec
-    (λ c κs. search needs)
-    returns
-    returns-2
-    (λ c κs. search needs)
-    table-ok-requires
-    returns-3
-    returns-4)
+form-number-spec = tie.close (tie.spec (λ c κs. search needs) returns returns-2 (λ c κs. search needs) table-ok-requires returns-3 returns-4)

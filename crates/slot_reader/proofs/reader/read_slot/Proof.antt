@@ -73,17 +73,4 @@ returns-2 c =
     )
 
 pub read-slot-spec : {M : Type 1} → statement M
-read-slot-spec =
-    tie.close
-    (tie.spec
-    (λ c κs. search needs)
-    (λ c. search needs)
-    returns
-    rows-at-requires
-    (λ c. search needs)
-    (λ c. search needs)
-    (λ c. search needs)
-    read-requires
-    advanced-requires
-    (λ c. search needs)
-    returns-2)
+read-slot-spec = tie.close (tie.spec (λ c κs. search needs) (λ c. search needs) returns rows-at-requires (λ c. search needs) (λ c. search needs) (λ c. search needs) read-requires advanced-requires (λ c. search needs) returns-2)

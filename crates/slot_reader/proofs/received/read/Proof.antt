@@ -1,123 +1,109 @@
--- `slot_reader::received::read`: the bits lent to the tests are those with dispersal taken off.
-use mathlib.Core.Path.{_≡_, ap, ap₂, _∙_}
-use Prim.Native.Nat.{ℕ, _*_, _-_, _≤_}
+-- `slot_reader::received::read`: a codeword read, whose stuff bits are tested and whose message is taken where it is sound.
+use mathlib.Core.Path.{_≡_, sym, ap, _∙_}
+use Prim.Native.Nat.{ℕ, _-_, _≤_}
 use native.Mathlib.Omega.{arith}
 use lib.ListN.{length, take}
 use lib.Seq.{length-take-le}
 use borrow.Author.Needs.{needs}
+use borrow.Author.Tests.{ne-eqb}
+use Rattle.lists.specs.Choice.{pick}
+use Rattle.lists.specs.ChoiceLaws.{then-first, then-next}
 use Rattle.lists.specs.PartLaws.{take-lent}
+use Rattle.refusal.specs.Numbers.{STUFF}
 use Rattle.codeword.specs.Words.{runBits}
-use Rattle.codeword.specs.Reading.{takenOff}
+use Rattle.codeword.specs.Reading.{takenOff, wordNumber}
 use Rattle.codeword.specs.ReadingLaws.{takenOff-bits}
-use Rattle.codeword.specs.Needs.{BareOf}
+use Rattle.codeword.specs.Needs.{ReadOf as ReadWord}
 use Rattle.slot.specs.Slots.{slotShape}
 use Rattle.slot.specs.SlotLaws.{sizes, fits, register-after}
-use Rattle.slot.specs.Reading.{sourceOf}
-use Rattle.slot_reader.specs.Forms.{plainNumber}
-use Rattle.slot_reader.specs.FormLaws.{plainNumber-is}
+use Rattle.slot.specs.Reading.{stuffRight, receivedNumber, sourceOf}
 use Rattle.slot_reader.proofs.Areas.{areas}
 use Rattle.slot_reader.proofs.received.read.Statement.{statement}
 use Rattle.slot_reader.proofs.received.read.Tie as tie
 
--- what the slot has been read to
-bared : (c : tie.After-bare)
+-- the codeword read
+word : (c : tie.After-read-word)
     → let a = c .before .before .before .before .before .before .before .before .before .before .before .before .args in
-    BareOf (slotShape (a .rows)) (a .table .now) (a .mask) (a .register) (a .coded .now) (c .bare .result .wrong) (c .bare .result .register) (c .bare .last .1 .1 .1 .1 .1 .0)
-bared c = let h = c .before .before .before .before .before in rw (h .shape .ensures) at (c .bare .ensures)
+    ReadWord (slotShape (a .rows)) (a .table .now) (a .mask) (a .register) (a .coded .now) (c .read-word .result .number) (c .read-word .result .register) (c .read-word .last .1 .1 .1 .1 .1 .0)
+word c = rw (c .before .before .before .before .before .shape .ensures) at (c .read-word .ensures)
 
--- the bits before the parity are within the slot's
+-- its bits before the parity are within the slot's
 record Within (R run bits : ℕ) : Type 0 where
   is-run : run ≡ runBits (slotShape R)
   room : run ≤ bits
 
-within : (c : tie.After-bare)
+within : (c : tie.After-read-word)
     → let r = c .before .before .before .before in
-    Within (r .before .before .before .before .before .before .before .before .args .rows) (r .run-bits .result) (length (c .bare .last .1 .1 .1 .1 .1 .0))
+    Within (r .before .before .before .before .before .before .before .before .args .rows) (r .run-bits .result) (length (c .read-word .last .1 .1 .1 .1 .1 .0))
 within c =
     let r = c .before .before .before .before in
     let s = r .before .before .before .before .before .before .before .before in
     let z = sizes (s .args .rows) (s .pre .checked .rate) in
     let e : r .run-bits .result ≡ runBits (slotShape (s .args .rows)) = r .run-bits .ensures ∙ ap runBits (r .before .shape .ensures) in
-    record { is-run = e; room = omega (arith, e, z .covered, z .all, bared c .long) }
+    record { is-run = e; room = omega (arith, e, z .covered, z .all, c .read-word .kept .1 .1 .1 .1 .1 .0, s .pre .checked .bits-long) }
 
--- the bits lent to the tests
-lent : (c : tie.After-bare)
+lent : (c : tie.After-read-word)
     → let r = c .before .before .before .before in
     let a = r .before .before .before .before .before .before .before .before .args in
-    take (r .run-bits .result - 0) (c .bare .last .1 .1 .1 .1 .1 .0) ≡ takenOff (slotShape (a .rows)) (a .mask) (a .register) (a .coded .now)
+    take (r .run-bits .result - 0) (c .read-word .last .1 .1 .1 .1 .1 .0) ≡ takenOff (slotShape (a .rows)) (a .mask) (a .register) (a .coded .now)
 lent c =
     let r = c .before .before .before .before in
-    let a = r .before .before .before .before .before .before .before .before .args in
-    take-lent (r .run-bits .result) (runBits (slotShape (a .rows))) (c .bare .last .1 .1 .1 .1 .1 .0) (within c .is-run) ∙ bared c .plain
+    take-lent (r .run-bits .result) (runBits (slotShape (r .before .before .before .before .before .before .before .before .args .rows))) (c .read-word .last .1 .1 .1 .1 .1 .0) (within c .is-run) ∙ word c .plain
 
 run-bits-requires : tie.Need-run-bits-requires
 run-bits-requires c κs = let s = c .before .before .before .before .before .before .before in rw (c .shape .ensures) (fits (s .args .rows) (s .pre .checked .rate))
 
-bare-requires : tie.Need-bare-requires
-bare-requires c κs =
-    let b = c .before .before .before in
-    let h = b .before in
+read-word-requires : tie.Need-read-word-requires
+read-word-requires c κs =
+    let h = c .before .before .before .before in
     let s = h .before .before .before .before .before .before .before in
     let a = s .args in
-    let k = s .pre .checked in
-    rw (h .shape .ensures) (record {
-      checked = areas (a .rows) (a .table .now) (a .bits .now) (a .input .now) (a .sums .now) (k .rate) (k .table) (k .bits-long) (k .input-long) (k .sums-long);
-      held = s .pre .held;
-      coded-long = k .whole;
-    })
+    rw (h .shape .ensures) (record { checked = areas (a .rows) (a .table .now) (a .coded .now) (a .bits .now) (a .input .now) (a .sums .now) (s .pre .checked); held = s .pre .held })
+
+returns : tie.Need-returns
+unfolding receivedNumber
+returns c =
+    let w = c .before .before .before .before .before .before .before .before in
+    let s = w .before .before .before .before .before .before .before .before .before .before .before .before in
+    let a = s .args in
+    let o = word w in
+    let z = then-first _ _ (λ e. c .if1 .taken (o .number ∙ e)) in
+    record {
+      number = o .number ∙ sym z;
+      register = o .register ∙ register-after (a .rows) (a .mask) (a .register) (s .pre .checked .rate);
+      area = rw (z, ← o .number, ne-eqb _ 0 (c .if1 .taken));
+    }
 
 take-source-requires : tie.Need-take-source-requires
 take-source-requires c κs =
-    let b = c .before .before .before .before .before .before .before .before .before in
-    let r = b .before .before .before .before in
+    let w = c .before .before .before .before .before .before .before .before .before .before .before in
+    let r = w .before .before .before .before in
     let s = r .before .before .before .before .before .before .before .before in
     let a = s .args in
     record {
-      run = record {
-        rate = s .pre .checked .rate;
-        all = length-take-le (r .run-bits .result - 0) (b .bare .last .1 .1 .1 .1 .1 .0) (omega (arith, within b)) ∙ omega (arith, within b);
-        bits = rw (lent b) (takenOff-bits (slotShape (a .rows)) (a .coded .now) (a .mask) (a .register));
-      };
+      rate = s .pre .checked .rate;
+      all = length-take-le (r .run-bits .result - 0) (w .read-word .last .1 .1 .1 .1 .1 .0) (omega (arith, within w)) ∙ omega (arith, within w);
+      bits = rw (lent w) (takenOff-bits (slotShape (a .rows)) (a .coded .now) (a .mask) (a .register));
       long = s .pre .long;
     }
 
-returns : tie.Need-returns
-unfolding sourceOf
-returns c =
+returns-2 : tie.Need-returns-2
+unfolding receivedNumber sourceOf
+returns-2 c =
     let t = c .before .before in
-    let b = t .before .before .before .before .before .before .before .before .before .before in
-    let a = b .before .before .before .before .before .before .before .before .before .before .before .before .args in
-    let w = bared b in
-    let e = lent b in
-    let v = ap₂ (plainNumber (a .rows)) (w .wrong) e ∙ plainNumber-is (a .rows) (a .table .now) (a .mask) (a .register) (a .coded .now) in
+    let e = t .before .before .before .before in
+    let w = e .before .before .before .before .before .before .before .before in
+    let s = w .before .before .before .before .before .before .before .before .before .before .before .before in
+    let a = s .args in
+    let o = word w in
+    let F = slotShape (a .rows) in
+    let z = then-next (wordNumber F (a .table .now) (a .mask) (a .register) (a .coded .now)) (pick (stuffRight (a .rows) (takenOff F (a .mask) (a .register) (a .coded .now))) 0 STUFF) (sym (o .number) ∙ e .if1 .left) in
+    let v = t .take-source .ensures in
     record {
-      number = t .take-source .ensures .0 ∙ v;
-      register = w .register ∙ register-after (a .rows) (a .mask) (a .register) (b .before .before .before .before .before .before .before .before .before .before .before .before .pre .checked .rate);
-      area = t .take-source .ensures .1 ∙ rw (v, e);
+      number = rw (z, ← lent w) (v .number);
+      register = o .register ∙ register-after (a .rows) (a .mask) (a .register) (s .pre .checked .rate);
+      area = rw (z, ← lent w) (v .area);
     }
 
 pub read-spec : {M : Type 1} → statement M
-read-spec =
-    tie.close
-    (tie.spec
-    (λ c κs. search needs)
-    run-bits-requires
-    (λ c. search needs)
-    (λ c. search needs)
-    (λ c. search needs)
-    (λ c. search needs)
-    (λ c. search needs)
-    (λ c. search needs)
-    (λ c. search needs)
-    (λ c. search needs)
-    (λ c. search needs)
-    bare-requires
-    (λ c. search needs)
-    (λ c. search needs)
-    (λ c. omega (arith, within (c .before .before .before .before .before .before .before)))
-    take-source-requires
-    (λ c. search needs)
-    (λ c. search needs)
-    (λ c. search needs)
-    (λ c. search needs)
-    returns)
+read-spec = tie.close (tie.spec (λ c κs. search needs) run-bits-requires (λ c. search needs) (λ c. search needs) (λ c. search needs) (λ c. search needs) (λ c. search needs) (λ c. search needs) (λ c. search needs) (λ c. search needs) (λ c. search needs) read-word-requires (λ c. search needs) (λ c. search needs) (λ c. search needs) returns (λ c. search needs) (λ c. search needs) (λ c. omega (arith, within (c .before .before .before .before .before .before .before .before .before))) take-source-requires (λ c. search needs) (λ c. search needs) (λ c. search needs) (λ c. search needs) returns-2)

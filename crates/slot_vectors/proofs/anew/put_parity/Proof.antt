@@ -28,14 +28,4 @@ remake-requires c κs =
     }
 
 pub put-parity-spec : {M : Type 1} → statement M
-put-parity-spec =
-    tie.close
-    (tie.spec
-    (λ c κs. search needs)
-    (λ c. search needs)
-    (λ c κs. some-rows c)
-    (λ c. search needs)
-    (λ c. search needs)
-    remake-requires
-    (λ c. search needs)
-    (λ c. search needs))
+put-parity-spec = tie.close (tie.spec (λ c κs. search needs) (λ c. search needs) (λ c κs. some-rows c) (λ c. search needs) (λ c. search needs) remake-requires (λ c. search needs) (λ c. search needs))
