@@ -4,4 +4,6 @@ pub mod Reading
 pub mod ReadingLaws
 pub mod RoundTrips
 pub mod DemandThree
+pub mod Calls
+pub mod CallLaws
 pub mod Needs

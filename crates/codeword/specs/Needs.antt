@@ -18,7 +18,7 @@ pub record Input (F : Shape) (run input : List ℕ) : Type 0 where
   pub room : length input ≡ 374 * F .rows
 
 -- an accepted table, a word's bits, and an area for the parity input
-pub record Lent (F : Shape) (t bits input : List ℕ) : Type 0 where
+pub record Room (F : Shape) (t bits input : List ℕ) : Type 0 where
   pub fits : Fits F
   pub table : tableOk (F .rows) t ≡ true
   pub bits-long : length bits ≡ 8 * F .octets
@@ -26,13 +26,13 @@ pub record Lent (F : Shape) (t bits input : List ℕ) : Type 0 where
 
 -- the same, with a register and an area for the word's octets
 pub record Coding (F : Shape) (r : ℕ) (t bits input coded : List ℕ) : Type 0 where
-  pub lent : Lent F t bits input
+  pub lent : Room F t bits input
   pub held : r < 2 ^ F .width
   pub coded-long : length coded ≡ F .octets
 
 -- what the parity check is lent: the word's octets, and an area for the sums too
 pub record Checked (F : Shape) (t coded bits input sums : List ℕ) : Type 0 where
-  pub lent : Lent F t bits input
+  pub lent : Room F t bits input
   pub sums-long : length sums ≡ positions (F .rows)
   pub coded-long : length coded ≡ F .octets
 

@@ -4,14 +4,14 @@ ghost use lib.ListN.{take};
 ghost use Rattle.bits.specs.Octets.{octetsOf};
 ghost use Rattle.dispersal.specs.Dispersal.{dispersed};
 ghost use Rattle.codeword.specs.Words.{runBits, withParity, registerAfter};
-ghost use Rattle.codeword.specs.Needs.{Lent, Coding};
+ghost use Rattle.codeword.specs.Needs.{Room, Coding};
 use crate::Shape;
 use crate::input::put_input;
 use crate::sizes::run_bits;
 
 // The parity of the bits that stand before it, put behind them.
 fn put_parity(shape: Shape, table: &[u16], bits: &mut [u8], input: &mut [u8])
-    requires { ⌜ Lent shape (now table) (now bits) (now input) ⌝ }
+    requires { ⌜ Room shape (now table) (now bits) (now input) ⌝ }
     ensures { λ _. ⌜ now (bits .exit) ≡ withParity shape (now (table .entry)) (take (runBits shape) (now (bits .entry))) ⌝ }
 {
     let run = run_bits(shape);

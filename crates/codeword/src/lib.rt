@@ -1,10 +1,12 @@
 // A codeword: what a slot and a TMCC block are, at other sizes. A message, its BCH bits and tail bits, dispersed, and
 // behind them the parity of these bits with zeros before and behind them.
+mod calls;
 mod coding;
 mod input;
 mod reading;
 mod sizes;
 
+pub use calls::lent_number;
 pub use coding::put_word;
 pub use reading::parity_number;
 pub use reading::read_word;

@@ -182,8 +182,8 @@ block-symbols t mask start x y a b =
 
 pub blocks-compared : BlocksCompared
 blocks-compared mask start t x y a b n m =
-    let lx = codable mask start t x a n .lent .source-long in
-    let ly = codable mask start t y b m .lent .source-long in
+    let lx = codable mask start t x a n .lent .areas .source-long in
+    let ly = codable mask start t y b m .lent .areas .source-long in
     record {
       symbols-made = (block-taken (blockOf t mask start x) (length-blockOf t mask start x), block-taken (blockOf t mask start y) (length-blockOf t mask start y));
       symbols = block-symbols t mask start x y lx ly;
@@ -198,11 +198,11 @@ blocks-added mask start t x y z a b c d n m l k =
     let gx = codable mask start t x a n in
     let gy = codable mask start t y b m in
     let gz = codable mask start t z c l in
-    let lx = gx .lent .source-long in
-    let ly = gy .lent .source-long in
-    let lz = gz .lent .source-long in
+    let lx = gx .lent .areas .source-long in
+    let ly = gy .lent .areas .source-long in
+    let lz = gz .lent .areas .source-long in
     let sum = addedOctets tmccOctets x y z in
-    let e = lent-lengths mask start t sum d x a (length-addedOctets tmccOctets x y z ∙ sym lx) (k ∙ sym (gx .lent .block-long)) in
+    let e = lent-lengths mask start t sum d x a (length-addedOctets tmccOctets x y z ∙ sym lx) (k ∙ sym (gx .lent .areas .coded-long)) in
     let i = blocks.tail-three x y z lx ly lz (gx .tail) (gy .tail) (gz .tail) in (
       then-both (lentNumber mask start t sum d) _ (e ∙ then-zero (lentNumber mask start t x a) _ n .0) (rw i),
       blocks.blocks-three t mask start x y z lx ly lz,

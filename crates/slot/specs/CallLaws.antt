@@ -1,27 +1,22 @@
 -- Laws of the slot calls' numbers: what a number 0 says, and when a number is 0.
 use mathlib.Core.Path.{_≡_}
-use mathlib.Core.Bool.{true, _&&_}
+use mathlib.Core.Bool.{true}
 use mathlib.Core.List.{List}
 use Prim.Native.Nat.{ℕ}
 use native.Mathlib.Omega.{arith}
-use borrow.Author.Tests.{eqb-true, eq-eqb}
-use lib.Dec.{eqb}
-use lib.ListN.{length}
-use Rattle.lists.specs.Choice.{pick}
-use Rattle.lists.specs.ChoiceLaws.{and-left, and-right, then-zero, then-both, not-refused}
-use Rattle.refusal.specs.Numbers.{DUMMY, LENGTH, TABLE}
-use Rattle.ldpc.specs.Tables.{tableOk}
+use Rattle.lists.specs.ChoiceLaws.{then-zero, then-both, not-refused}
+use Rattle.refusal.specs.Numbers.{DUMMY}
 use Rattle.plan.specs.declared.FrameState.{FrameState}
 use Rattle.plan.specs.RateLaws.{Rows, rate-rows}
-use Rattle.plan.specs.Sizes.{slotOctets}
 use Rattle.plan.specs.Plans.{rateOf}
 use Rattle.plan.specs.PlanLaws.{accepted, group-values}
 use Rattle.plan.specs.Places.{groupAt, carries}
 use Rattle.plan.specs.PlaceLaws.{group-holds}
 use Rattle.plan.specs.States.{planIn, stateNumber}
 use Rattle.plan.specs.StateLaws.{Ready, ready, ready-yes}
-use Rattle.slot.specs.Slots.{sourceOctets}
-use Rattle.slot.specs.Calls.{rowsAt, dataNumber, lentNumber, slotNumber}
+use Rattle.codeword.specs.CallLaws.{Lent, lent, lent-yes}
+use Rattle.slot.specs.Slots.{sourceOctets, slotShape}
+use Rattle.slot.specs.Calls.{rowsAt, dataNumber, slotNumber}
 
 -- a state at a data slot
 pub record AtData (s : FrameState) : Type 0 where
@@ -49,38 +44,19 @@ pub data-yes : (s : FrameState) → Ready s → carries (planIn s) (s .slot) ≡
 unfolding dataNumber
 data-yes s r c = rw (ready-yes s r, c)
 
--- areas of the right lengths, and an accepted table
-pub record Lent (R : ℕ) (t source coded : List ℕ) : Type 0 where
-  pub source-long : length source ≡ sourceOctets R
-  pub coded-long : length coded ≡ slotOctets
-  pub table : tableOk R t ≡ true
-
-pub lent : (R : ℕ) (t source coded : List ℕ) → lentNumber R t source coded ≡ 0 → Lent R t source coded
-unfolding lentNumber
-lent R t source coded h =
-    let a = then-zero (pick (eqb (length source) (sourceOctets R) && eqb (length coded) slotOctets) 0 LENGTH) _ h in
-    let b = not-refused (eqb (length source) (sourceOctets R) && eqb (length coded) slotOctets) LENGTH (omega arith) (a .0) in
-    record {
-      source-long = eqb-true (length source) (sourceOctets R) (and-left (eqb (length source) (sourceOctets R)) _ b);
-      coded-long = eqb-true (length coded) slotOctets (and-right (eqb (length source) (sourceOctets R)) _ b);
-      table = not-refused (tableOk R t) TABLE (omega arith) (a .1);
-    }
-
 -- all that the work on a slot may assume
 pub record Accepted-slot (s : FrameState) (t source coded : List ℕ) : Type 0 where
   pub place : AtData s
-  pub areas : Lent (rowsAt s) t source coded
+  pub areas : Lent (slotShape (rowsAt s)) (sourceOctets (rowsAt s)) t source coded
 
 pub accepted-slot : (s : FrameState) (t source coded : List ℕ) → slotNumber s t source coded ≡ 0 → Accepted-slot s t source coded
 unfolding slotNumber
 accepted-slot s t source coded h =
     let a = then-zero (dataNumber s) _ h in
-    record { place = at-data s (a .0); areas = lent (rowsAt s) t source coded (a .1) }
+    record { place = at-data s (a .0); areas = lent (slotShape (rowsAt s)) (sourceOctets (rowsAt s)) t source coded (a .1) }
 
 -- a call that has all of it has number 0
 pub slot-yes : (s : FrameState) (t source coded : List ℕ) → Accepted-slot s t source coded → slotNumber s t source coded ≡ 0
-unfolding slotNumber lentNumber
+unfolding slotNumber
 slot-yes s t source coded a =
-    let r = rowsAt s in
-    then-both (dataNumber s) _ (data-yes s (a .place .ready) (a .place .carries))
-    (rw (eq-eqb (length source) (sourceOctets r) (a .areas .source-long), eq-eqb (length coded) slotOctets (a .areas .coded-long), a .areas .table))
+    then-both (dataNumber s) _ (data-yes s (a .place .ready) (a .place .carries)) (lent-yes (slotShape (rowsAt s)) (sourceOctets (rowsAt s)) t source coded (a .areas))

@@ -1,6 +1,5 @@
 -- The calls on a slot (document 01, "Refusal list"): their numbers, states and areas.
 use mathlib.Core.Path.{_≡_}
-use mathlib.Core.Bool.{_&&_}
 use mathlib.Core.List.{List}
 use Prim.Native.Nat.{ℕ}
 use lib.Dec.{eqb}
@@ -15,7 +14,8 @@ use Rattle.plan.specs.Sizes.{slotOctets}
 use Rattle.plan.specs.Plans.{rateOf}
 use Rattle.plan.specs.Places.{groupAt, carries}
 use Rattle.plan.specs.States.{planIn, movedOn, answer, stateNumber}
-use Rattle.slot.specs.Slots.{sourceOctets, slotOf, registerAfter}
+use Rattle.codeword.specs.Calls.{lentNumber as wordLentNumber}
+use Rattle.slot.specs.Slots.{sourceOctets, slotShape, slotOf, registerAfter}
 use Rattle.slot.specs.Reading.{receivedNumber, sourceOf, checkedNumber}
 
 -- the rows of the parity table at the place of the state's next slot
@@ -27,9 +27,8 @@ unfoldable pub dataNumber : FrameState → ℕ
 dataNumber s = andThen (stateNumber s) (pick (carries (planIn s) (s .slot)) 0 DUMMY)
 
 -- ", 4, 5": header and data octets, the slot's 5,610 octets, and the parity table
-unfoldable pub lentNumber : ℕ → List ℕ → List ℕ → List ℕ → ℕ
-lentNumber R t source coded =
-    andThen (pick (eqb (length source) (sourceOctets R) && eqb (length coded) slotOctets) 0 LENGTH) (pick (tableOk R t) 0 TABLE)
+abbrev pub lentNumber : ℕ → List ℕ → List ℕ → List ℕ → ℕ
+lentNumber R t source coded = wordLentNumber (slotShape R) (sourceOctets R) t source coded
 
 unfoldable pub slotNumber : FrameState → List ℕ → List ℕ → List ℕ → ℕ
 slotNumber s t source coded = andThen (dataNumber s) (lentNumber (rowsAt s) t source coded)

@@ -31,13 +31,15 @@ use Rattle.plan.specs.Sizes.{slotOctets, slotWidth}
 use Rattle.plan.specs.States.{planIn, soundNumber, stateNumber}
 use Rattle.plan.specs.StateLaws.{sound-yes, moved-sound}
 use Rattle.codeword.specs.Words.{wordOf}
+use Rattle.codeword.specs.Calls.{lentNumber as wordLentNumber}
+use Rattle.codeword.specs.CallLaws.{lent-lengths}
 use Rattle.codeword.specs.ReadingLaws.{Received, word-good}
 use Rattle.codeword.specs.RoundTrips.{coded-read as word-back, read-coded as word-again}
 use Rattle.slot.specs.Slots.{sourceOctets, coveredBits, stuffBits, slotShape, slotOf, registerAfter}
 use Rattle.slot.specs.SlotLaws.{Source, fits, message, length-slotOf}
 use Rattle.slot.specs.Reading.{receivedNumber, sourceOf, MovesOn}
 use Rattle.slot.specs.ReadingLaws.{GoodSlot, received-numbers, received-good, sourceOf-source, sourceOf-bits}
-use Rattle.slot.specs.Calls.{rowsAt, dataNumber, lentNumber, slotNumber, nextState, codeAnswer, codeArea, readNumber, readAnswer, readArea, Answers}
+use Rattle.slot.specs.Calls.{rowsAt, dataNumber, slotNumber, nextState, codeAnswer, codeArea, readNumber, readAnswer, readArea, Answers}
 use Rattle.slot.specs.CallLaws.{accepted-slot}
 
 -- that reading the slot c answers 0 and gives these header and data octets
@@ -71,8 +73,9 @@ read-coded R t mask r c w o h =
 -- of the lent areas only the lengths count for the number of a call
 pub slotNumber-lengths : (s : FrameState) (t source coded source′ coded′ : List ℕ) → length source ≡ length source′ → length coded ≡ length coded′
     → slotNumber s t source coded ≡ slotNumber s t source′ coded′
-unfolding slotNumber lentNumber
-slotNumber-lengths s t source coded source′ coded′ l m = rw (l, m)
+unfolding slotNumber
+slotNumber-lengths s t source coded source′ coded′ l m =
+    ap (andThen (dataNumber s)) (lent-lengths (slotShape (rowsAt s)) (sourceOctets (rowsAt s)) t source coded source′ coded′ l m)
 
 -- a reading that is refused for nothing before the slot itself is read answers 0 exactly when all three checks hold
 pub read-good : (s : FrameState) (t coded source : List ℕ) → slotNumber s t source coded ≡ 0
@@ -122,7 +125,7 @@ state-earlier s =
     (earlier-test (leb (s .slot) 120) FULL (omega arith))
 
 slot-earlier : (s : FrameState) (t source coded : List ℕ) → Earlier (slotNumber s t source coded)
-unfolding slotNumber dataNumber lentNumber
+unfolding slotNumber dataNumber wordLentNumber
 slot-earlier s t source coded =
     earlier-then
     (earlier-then (state-earlier s) (earlier-test (carries (planIn s) (s .slot)) DUMMY (omega arith)))

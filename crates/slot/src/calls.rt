@@ -1,8 +1,8 @@
 // The number of a slot call: the state, the place, the lent areas and the table, in document 01's order.
 ghost use mathlib.Core.Path.{_≡_};
-ghost use Rattle.plan.specs.RateLaws.{Rows};
 ghost use Rattle.plan.specs.States.{stateNumber};
-ghost use Rattle.slot.specs.Calls.{rowsAt, dataNumber, lentNumber, slotNumber};
+ghost use Rattle.slot.specs.Calls.{rowsAt, dataNumber, slotNumber};
+use crate::sizes::shape;
 use crate::sizes::source_octets;
 use plan::FrameState;
 
@@ -30,23 +30,6 @@ pub fn data_number(state: FrameState) -> u8
     refusal::DUMMY
 }
 
-// The refusal of the lent areas or of the parity table, or 0.
-fn lent_number(rows: usize, table: &[u16], source: &[u8], coded: &[u8]) -> u8
-    requires { ⌜ Rows rows ⌝ }
-    ensures { λ r. ⌜ r ≡ lentNumber rows (now (table .entry)) (now (source .entry)) (now (coded .entry)) ⌝ }
-{
-    if source.len() != source_octets(rows) {
-        return refusal::LENGTH;
-    }
-    if coded.len() != plan::SLOT_OCTETS {
-        return refusal::LENGTH;
-    }
-    if ldpc::table_ok(rows, table) {
-        return 0;
-    }
-    refusal::TABLE
-}
-
 // The refusal of a slot call before any work on the slot, or 0.
 pub fn slot_number(state: FrameState, table: &[u16], source: &[u8], coded: &[u8]) -> u8
     ensures { λ r. ⌜ r ≡ slotNumber state (now (table .entry)) (now (source .entry)) (now (coded .entry)) ⌝ }
@@ -55,5 +38,6 @@ pub fn slot_number(state: FrameState, table: &[u16], source: &[u8], coded: &[u8]
     if number != 0 {
         return number;
     }
-    lent_number(rows_at(state), table, source, coded)
+    let rows = rows_at(state);
+    codeword::lent_number(shape(rows), source_octets(rows), table, source, coded)
 }

@@ -1,6 +1,6 @@
 -- Laws of the calls: all that a number 0 lets the work on a block assume.
 use mathlib.Core.Path.{_≡_, refl, sym, ap, _∙_}
-use mathlib.Core.Bool.{true, _&&_}
+use mathlib.Core.Bool.{true}
 use mathlib.Core.List.{List}
 use mathlib.Core.Logic.{_↔_}
 use Prim.Native.Nat.{ℕ}
@@ -12,39 +12,30 @@ use lib.Seq.{take-all}
 use Rattle.lists.specs.Choice.{pick}
 use Rattle.lists.specs.ChoiceLaws.{then-zero, not-refused, and-left, and-right}
 use Rattle.lists.specs.RunLaws.{below-drop}
-use Rattle.refusal.specs.Numbers.{LENGTH, TABLE, REGISTER, TAIL}
+use Rattle.refusal.specs.Numbers.{REGISTER, TAIL}
 use Rattle.bits.specs.Digits.{digits, number}
 use Rattle.bits.specs.DigitLaws.{digits-number}
 use Rattle.bits.specs.Octets.{bitsOf}
 use Rattle.bits.specs.OctetLaws.{length-bitsOf, bitsOf-bits}
 use Rattle.dispersal.specs.Register.{maskOk, registerOk, settingsOk}
-use Rattle.ldpc.specs.Tables.{tableOk}
-use Rattle.plan.specs.Sizes.{blockOctets, blockWidth}
-use Rattle.tmcc.specs.Blocks.{blockRows, sourceOctets, messageBits}
+use Rattle.codeword.specs.CallLaws as words
+use Rattle.codeword.specs.CallLaws.{Lent as LentWord}
+use Rattle.plan.specs.Sizes.{blockWidth}
+use Rattle.tmcc.specs.Blocks.{sourceOctets, messageBits, blockShape}
 use Rattle.tmcc.specs.Calls.{lentNumber, tailOk, codeNumber}
 
--- accepted settings and table, and areas of the right lengths
+-- accepted settings, and what a codeword is lent
 pub record Lent (mask start : ℕ) (t source block : List ℕ) : Type 0 where
   pub mask-ok : maskOk blockWidth mask ≡ true
   pub start-ok : registerOk blockWidth start ≡ true
-  pub source-long : length source ≡ sourceOctets
-  pub block-long : length block ≡ blockOctets
-  pub table : tableOk blockRows t ≡ true
+  pub areas : LentWord blockShape sourceOctets t source block
 
 pub lent : (mask start : ℕ) (t source block : List ℕ) → lentNumber mask start t source block ≡ 0 → Lent mask start t source block
 unfolding lentNumber
 lent mask start t source block h =
     let a = then-zero (pick (settingsOk blockWidth mask start) 0 REGISTER) _ h in
     let s = not-refused (settingsOk blockWidth mask start) REGISTER (omega arith) (a .0) in
-    let b = then-zero (pick (eqb (length source) sourceOctets && eqb (length block) blockOctets) 0 LENGTH) _ (a .1) in
-    let l = not-refused (eqb (length source) sourceOctets && eqb (length block) blockOctets) LENGTH (omega arith) (b .0) in
-    record {
-      mask-ok = and-left (maskOk blockWidth mask) _ s;
-      start-ok = and-right (maskOk blockWidth mask) _ s;
-      source-long = eqb-true (length source) sourceOctets (and-left (eqb (length source) sourceOctets) _ l);
-      block-long = eqb-true (length block) blockOctets (and-right (eqb (length source) sourceOctets) _ l);
-      table = not-refused (tableOk blockRows t) TABLE (omega arith) (b .1);
-    }
+    record { mask-ok = and-left (maskOk blockWidth mask) _ s; start-ok = and-right (maskOk blockWidth mask) _ s; areas = words.lent blockShape sourceOctets t source block (a .1) }
 
 -- two zeros are the number 0
 zeros-number : number 2 (replicate 2 0) ≡ 0

@@ -1,25 +1,23 @@
 -- The calls on a TMCC block (document 01, "Refusal list"): "TMCC: 6, 4, 5, then 11, or 8, 9".
-use mathlib.Core.Bool.{Bool, _&&_}
+use mathlib.Core.Bool.{Bool}
 use mathlib.Core.List.{List}
 use Prim.Native.Nat.{ℕ}
 use lib.Dec.{eqb}
-use lib.ListN.{length, drop}
+use lib.ListN.{drop}
 use Rattle.lists.specs.Choice.{pick, andThen}
-use Rattle.refusal.specs.Numbers.{LENGTH, TABLE, REGISTER, TAIL}
+use Rattle.refusal.specs.Numbers.{REGISTER, TAIL}
 use Rattle.bits.specs.Digits.{number}
 use Rattle.bits.specs.Octets.{bitsOf}
 use Rattle.dispersal.specs.Register.{settingsOk}
-use Rattle.ldpc.specs.Tables.{tableOk}
-use Rattle.plan.specs.Sizes.{blockOctets, blockWidth}
+use Rattle.plan.specs.Sizes.{blockWidth}
+use Rattle.codeword.specs.Calls.{lentNumber as wordLentNumber}
 use Rattle.codeword.specs.Reading.{wordNumber}
-use Rattle.tmcc.specs.Blocks.{blockRows, sourceOctets, messageBits, blockShape}
+use Rattle.tmcc.specs.Blocks.{sourceOctets, messageBits, blockShape}
 
 -- "6, 4, 5": the settings, the 1,178 and the 3,960 octets, and the parity table
 unfoldable pub lentNumber : ℕ → ℕ → List ℕ → List ℕ → List ℕ → ℕ
 lentNumber mask start t source block =
-    andThen (pick (settingsOk blockWidth mask start) 0 REGISTER)
-    (andThen (pick (eqb (length source) sourceOctets && eqb (length block) blockOctets) 0 LENGTH)
-    (pick (tableOk blockRows t) 0 TABLE))
+    andThen (pick (settingsOk blockWidth mask start) 0 REGISTER) (wordLentNumber blockShape sourceOctets t source block)
 
 -- 11: "one of the last two TMCC bits is 1", the two as a number
 unfoldable pub tailOk : List ℕ → Bool

@@ -13,6 +13,7 @@ use Rattle.bits.specs.OctetLaws.{octets-bits}
 use Rattle.codeword.specs.Words.{wordOf}
 use Rattle.codeword.specs.Reading.{takenOff, tailIn, wordNumber}
 use Rattle.codeword.specs.ReadingLaws.{Received, takenOff-long}
+use Rattle.codeword.specs.CallLaws as given
 use Rattle.codeword.specs.RoundTrips as words
 use Rattle.codeword.specs.RoundTrips.{ReadsAs}
 use Rattle.tmcc.specs.Blocks.{sourceOctets, messageBits, blockShape, messageOf, blockOf}
@@ -46,7 +47,7 @@ read-coded t mask start c o h =
 pub lent-lengths : (mask start : ℕ) (t source block source′ block′ : List ℕ) → length source ≡ length source′ → length block ≡ length block′
     → lentNumber mask start t source block ≡ lentNumber mask start t source′ block′
 unfolding lentNumber
-lent-lengths mask start t source block source′ block′ l m = rw (l, m)
+lent-lengths mask start t source block source′ block′ l m = rw (given.lent-lengths blockShape sourceOctets t source block source′ block′ l m)
 
 -- a block that was coded with 0, read with the same table and settings: 0 and its octets
 pub code-then-read : (mask start : ℕ) (t source block out : List ℕ) → Octets source → length out ≡ length source
@@ -56,8 +57,8 @@ unfolding codeNumber readNumber
 code-then-read mask start t source block out o l h =
     let c = blockOf t mask start source in
     let a = codable mask start t source block h in
-    let k = a .lent .source-long in
-    let n = lent-lengths mask start t out c source block l (length-blockOf t mask start source ∙ sym (a .lent .block-long)) in
+    let k = a .lent .areas .source-long in
+    let n = lent-lengths mask start t out c source block l (length-blockOf t mask start source ∙ sym (a .lent .areas .coded-long)) in
     record {
       taken = then-both (lentNumber mask start t out c) _ (n ∙ then-zero (lentNumber mask start t source block) _ h .0) (word-back t mask start source k .number);
       same = coded-read t mask start source k o (tail-right source k .0 (a .tail));
@@ -73,9 +74,9 @@ read-then-code mask start t block source out o l h =
     let z = then-zero (lentNumber mask start t source block) _ h in
     let a = lent mask start t source block (z .0) in
     let s = length-sourceOf mask start block in
-    let n = lent-lengths mask start t m out source block (s ∙ sym (a .source-long)) l in
-    let e : tailOk m ≡ _ = tail-right m s .1 (sourceOf-tail mask start block (a .block-long)) in
+    let n = lent-lengths mask start t m out source block (s ∙ sym (a .areas .source-long)) l in
+    let e : tailOk m ≡ _ = tail-right m s .1 (sourceOf-tail mask start block (a .areas .coded-long)) in
     record {
       taken = then-both (lentNumber mask start t m out) _ (n ∙ z .0) (rw e);
-      same = read-coded t mask start block (record { octets = o; long = a .block-long }) (z .1);
+      same = read-coded t mask start block (record { octets = o; long = a .areas .coded-long }) (z .1);
     }

@@ -1,8 +1,8 @@
 // What both calls test: settings, lengths, table.
 ghost use mathlib.Core.Path.{_≡_};
 ghost use Rattle.tmcc.specs.Calls.{lentNumber};
-use crate::ROWS;
 use crate::SOURCE_OCTETS;
+use crate::shape;
 
 // The refusal of the settings, of a lent area's length or of the parity table, or 0.
 pub fn lent_number(mask: u32, start: u32, table: &[u16], source: &[u8], block: &[u8]) -> u8
@@ -11,14 +11,5 @@ pub fn lent_number(mask: u32, start: u32, table: &[u16], source: &[u8], block: &
     if !dispersal::settings_ok(plan::BLOCK_WIDTH, mask, start) {
         return refusal::REGISTER;
     }
-    if source.len() != SOURCE_OCTETS {
-        return refusal::LENGTH;
-    }
-    if block.len() != plan::BLOCK_OCTETS {
-        return refusal::LENGTH;
-    }
-    if ldpc::table_ok(ROWS, table) {
-        return 0;
-    }
-    refusal::TABLE
+    codeword::lent_number(shape(), SOURCE_OCTETS, table, source, block)
 }

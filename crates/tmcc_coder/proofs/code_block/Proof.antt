@@ -23,11 +23,11 @@ put-block-requires c κs =
     let g = codable _ _ _ _ _ (zero (c .before .before .before)) .lent in
     record {
       word = record {
-        lent = record { fits = fits; table = g .table; bits-long = length-replicate {A = ℕ} 31680 0; room = length-replicate {A = ℕ} 22814 0 };
+        lent = record { fits = fits; table = g .areas .table; bits-long = length-replicate {A = ℕ} 31680 0; room = length-replicate {A = ℕ} 22814 0 };
         held = register-is 15 _ (g .start-ok) .high;
-        coded-long = g .block-long;
+        coded-long = g .areas .coded-long;
       };
-      source-long = g .source-long;
+      source-long = g .areas .source-long;
     }
 
 returns-2 : tie.Need-returns-2

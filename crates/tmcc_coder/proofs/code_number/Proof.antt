@@ -17,7 +17,7 @@ returns c = c .before .lent-number .ensures ∙ sym (then-first _ _ (λ e. c .if
 
 -- the octets are as many as they must be
 long : (c : tie.Else1) → length (c .before .before .before .before .before .args .source .now) ≡ 1178
-long c = lent _ _ _ _ _ (sym (c .before .lent-number .ensures) ∙ c .if1 .left) .source-long
+long c = lent _ _ _ _ _ (sym (c .before .lent-number .ensures) ∙ c .if1 .left) .areas .source-long
 
 returns-2 : tie.Need-returns-2
 unfolding codeNumber

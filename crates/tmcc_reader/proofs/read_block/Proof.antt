@@ -30,13 +30,13 @@ read-requires c κs =
     record {
       received = record {
         checked = record {
-          lent = record { fits = fits; table = l .table; bits-long = length-replicate {A = ℕ} 31680 0; room = length-replicate {A = ℕ} 22814 0 };
+          lent = record { fits = fits; table = l .areas .table; bits-long = length-replicate {A = ℕ} 31680 0; room = length-replicate {A = ℕ} 22814 0 };
           sums-long = length-replicate {A = ℕ} 22066 0;
-          coded-long = l .block-long;
+          coded-long = l .areas .coded-long;
         };
         held = register-is 15 (a .start) (l .start-ok) .high;
       };
-      source-long = l .source-long;
+      source-long = l .areas .source-long;
     }
 
 returns-2 : tie.Need-returns-2
