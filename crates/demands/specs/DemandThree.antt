@@ -1,7 +1,7 @@
 -- Demand 3, proved.
 use mathlib.Core.Path.{_≡_, refl, sym, ap, ap₂, _∙_}
 use mathlib.Core.Bool.{true}
-use mathlib.Core.List.{List}
+use mathlib.Core.List.{List, []}
 use mathlib.Core.Logic.{_↔_}
 use Prim.Native.Nat.{ℕ, _+_, _-_, _*_, _<_, _≤_}
 use native.Mathlib.Omega.{arith}
@@ -11,6 +11,7 @@ use Rattle.lists.specs.ChoiceLaws.{then-zero, then-both}
 use Rattle.lists.specs.PartLaws.{length-part}
 use Rattle.lists.specs.Runs.{Octets}
 use Rattle.lists.specs.RunLaws.{below-part}
+use Rattle.bits.specs.Octets.{bitsOf}
 use Rattle.bits.specs.Sums.{addedOctets}
 use Rattle.bits.specs.OctetParts.{length-addedOctets, added-part}
 use Rattle.plan.specs.declared.Plan.{Plan}
@@ -26,14 +27,15 @@ use Rattle.plan.specs.Records.{planIn}
 use Rattle.plan.specs.StateLaws.{Ready}
 use Rattle.symbols.specs.Labels.{labelsOfSlot, labelsOfBlock, blockLabels, slotNumber as labelsNumber, blockNumber as blockLabelsNumber}
 use Rattle.symbols.specs.CallLaws.{lengths-yes, slots-equal as label-slots, blocks-equal as label-blocks}
-use Rattle.slot.specs.Slots.{sourceOctets, slotOf}
-use Rattle.slot.specs.SlotLaws.{Source, length-slotOf, slotOf-octets}
+use Rattle.codeword.specs.DemandThree as words
+use Rattle.slot.specs.Slots.{sourceOctets, stuffBits, slotShape, slotOf}
+use Rattle.slot.specs.SlotLaws.{Source, fits, message, length-slotOf, slotOf-octets}
 use Rattle.slot.specs.Calls.{rowsAt, slotNumber, codeAnswer, codeArea}
 use Rattle.slot.specs.CallLaws.{Accepted-slot, accepted-slot}
 use Rattle.slot.specs.RoundTrips.{slotNumber-lengths}
 use Rattle.slot.specs.DemandThree as slots
-use Rattle.tmcc.specs.Blocks.{sourceOctets as tmccOctets, messageOf, blockOf}
-use Rattle.tmcc.specs.BlockLaws.{length-blockOf, blockOf-octets}
+use Rattle.tmcc.specs.Blocks.{sourceOctets as tmccOctets, blockShape, messageOf, blockOf}
+use Rattle.tmcc.specs.BlockLaws.{fits as block-fits, message as block-message, length-blockOf, blockOf-octets}
 use Rattle.tmcc.specs.Calls.{lentNumber, codeNumber}
 use Rattle.tmcc.specs.CallLaws.{codable}
 use Rattle.tmcc.specs.RoundTrips.{lent-lengths}
@@ -63,12 +65,16 @@ slot-symbols R t mask r x y w a b m rate h =
 -- two slots c and d, coded from x and y at one place
 compared : (R : ℕ) (t : List ℕ) (m rate mask r : ℕ) (x y : List ℕ) → Rows R → modulationOk m ≡ true → rateOk rate ≡ true → Source R x → Source R y
     → {c d : List ℕ} → c ≡ slotOf R t mask r x → d ≡ slotOf R t mask r y → Compared R t m rate x y c d
+unfolding slotOf
 compared R t m rate mask r x y w h k a b e f =
+    let F = slotShape R in
+    let p = message R x w (a .long) in
+    let q = message R y w (b .long) in
     rw (e, f) (record {
       symbols-made = (symbols-taken m rate (slotOf R t mask r x) h k (length-slotOf R t mask r x), symbols-taken m rate (slotOf R t mask r y) h k (length-slotOf R t mask r y));
       symbols = slot-symbols R t mask r x y w a b m rate h;
-      bch = slots.bch-equal R t mask r x y w a b;
-      bch-as-sent = slots.bch-sent-equal R t mask r x y w a b;
+      bch = words.bch-equal F t mask r (bitsOf x) (bitsOf y) stuffBits (fits R w) p q;
+      bch-as-sent = words.bch-sent-equal F t mask r (bitsOf x) (bitsOf y) stuffBits (fits R w) p q;
       ldpc = slots.parity-equal R t mask r x y w a b;
     })
 
@@ -175,21 +181,25 @@ block-taken c l = lengths-yes blockOctets blockLabels (length c) blockLabels (re
 -- "31,680 BPSK labels": the symbols of two blocks are equal exactly when the 9,422 bits are
 block-symbols : (t : List ℕ) (mask start : ℕ) (x y : List ℕ) → length x ≡ tmccOctets → length y ≡ tmccOctets
     → (labelsOfBlock (blockOf t mask start x) ≡ labelsOfBlock (blockOf t mask start y)) ↔ (messageOf x ≡ messageOf y)
+unfolding blockOf
 block-symbols t mask start x y a b =
     let e = label-blocks (blockOf t mask start x) (blockOf t mask start y) (length-blockOf t mask start x) (length-blockOf t mask start y) (blockOf-octets t mask start x) (blockOf-octets t mask start y) in
-    let d = blocks.blocks-equal t mask start x y a b in
+    let d = words.words-equal blockShape t mask start (messageOf x) (messageOf y) [] block-fits (block-message x a) (block-message y b) in
     ((λ i. d .0 (e .0 i)), (λ i. e .1 (d .1 i)))
 
 pub blocks-compared : BlocksCompared
+unfolding blockOf
 blocks-compared mask start t x y a b n m =
     let lx = codable mask start t x a n .lent .areas .source-long in
     let ly = codable mask start t y b m .lent .areas .source-long in
+    let mx = block-message x lx in
+    let my = block-message y ly in
     record {
       symbols-made = (block-taken (blockOf t mask start x) (length-blockOf t mask start x), block-taken (blockOf t mask start y) (length-blockOf t mask start y));
       symbols = block-symbols t mask start x y lx ly;
-      bch = blocks.bch-equal t mask start x y lx ly;
-      bch-as-sent = blocks.bch-sent-equal t mask start x y lx ly;
-      ldpc = blocks.parity-equal t mask start x y lx ly;
+      bch = words.bch-equal blockShape t mask start (messageOf x) (messageOf y) [] block-fits mx my;
+      bch-as-sent = words.bch-sent-equal blockShape t mask start (messageOf x) (messageOf y) [] block-fits mx my;
+      ldpc = words.parity-equal blockShape t mask start (messageOf x) (messageOf y) [] block-fits mx my;
     }
 
 pub blocks-added : BlocksAdded

@@ -34,8 +34,7 @@ use Rattle.codeword.specs.Reading.{parityIn, bchIn, EvenTimes}
 use Rattle.slot.specs.Slots.{slotShape, registerAfter}
 use Rattle.slot.specs.Reading.{covered, parity}
 use Rattle.slot.specs.Calls.{rowsAt, codeAnswer, codeArea, readAnswer, readArea, Answers}
-use Rattle.tmcc.specs.Blocks.{sourceOctets as tmccOctets, blockShape, messageOf, blockOf}
-use Rattle.tmcc.specs.Reading.{sourceOf}
+use Rattle.tmcc.specs.Blocks.{sourceOctets as tmccOctets, blockShape, messageOf, blockOf, sourceOf}
 use Rattle.tmcc.specs.Calls.{codeNumber, readNumber}
 use Rattle.frame.specs.Tables.{tableOf}
 use Rattle.frame.specs.Steps.{tableAt}

@@ -11,7 +11,7 @@ use Rattle.lists.specs.Choice.{pick}
 use Rattle.refusal.specs.Answers.{Answered}
 use Rattle.refusal.specs.Numbers.{PLAN}
 use Rattle.plan.specs.Rates.{rateOk, modulationOk, packetsOf}
-use Rattle.slot.specs.Calls.{checkNumber}
+use Rattle.slot.specs.Calls.{formNumber, checkNumber}
 use Rattle.packets.specs.Packets.{packed, unpacked, sizeNumber, packNumber, unpackNumber}
 use Rattle.published.specs.Published.{tableOf, copyNumber}
 use Rattle.symbols.specs.Labels.{labelsOfSlot, slotOfLabels, slotNumber, slotOfLabelsNumber}
@@ -56,7 +56,7 @@ both-unknown n m right other found r left e d =
     both-refuse n m right other found r left (e ∙ sym d) (λ z. omega (arith, d, z))
 
 pub check-given : (rate : ℕ) (t coded : List ℕ) → checkNumber (narrowed rate) t coded ≡ checkNumber rate t coded
-unfolding checkNumber
+unfolding checkNumber formNumber
 check-given rate t coded =
     as-given (λ x. checkNumber (narrowed rate) t coded ≡ checkNumber x t coded) rate (λ h p. p ∙ rw (unknown-rate rate h)) refl
 

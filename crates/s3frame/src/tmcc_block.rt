@@ -1,7 +1,6 @@
 // Calls on a TMCC block.
 ghost use Rattle.refusal.specs.Answers.{Answered};
-ghost use Rattle.tmcc.specs.Blocks.{blockOf};
-ghost use Rattle.tmcc.specs.Reading.{sourceOf};
+ghost use Rattle.tmcc.specs.Blocks.{blockOf, sourceOf};
 ghost use Rattle.tmcc.specs.Calls.{codeNumber, readNumber};
 use crate::numbers::word;
 

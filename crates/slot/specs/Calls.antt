@@ -59,13 +59,16 @@ unfoldable pub readArea : FrameState → List ℕ → List ℕ → List ℕ → 
 readArea s t coded source =
     pick (eqb (readNumber s t coded source) 0) (sourceOf (rowsAt s) (s .mask) (s .register) coded) source
 
--- "Lone parity check: 1, 4, 5, 8"
-unfoldable pub checkNumber : ℕ → List ℕ → List ℕ → ℕ
-checkNumber rate t coded =
+-- "Lone parity check: 1, 4, 5": what is tested before the parity
+unfoldable pub formNumber : ℕ → List ℕ → List ℕ → ℕ
+formNumber rate t coded =
     andThen (pick (rateOk rate) 0 PLAN)
     (andThen (pick (eqb (length coded) slotOctets) 0 LENGTH)
-    (andThen (pick (tableOk (rowsOf rate) t) 0 TABLE)
-    (checkedNumber (rowsOf rate) t coded)))
+    (pick (tableOk (rowsOf rate) t) 0 TABLE))
+
+-- "Lone parity check: 1, 4, 5, 8"
+unfoldable pub checkNumber : ℕ → List ℕ → List ℕ → ℕ
+checkNumber rate t coded = andThen (formNumber rate t coded) (checkedNumber (rowsOf rate) t coded)
 
 -- that a call answers 0 with this state, and leaves these octets in its area
 pub record Answers (a : Answer) (area : List ℕ) (next : FrameState) (octets : List ℕ) : Type 0 where

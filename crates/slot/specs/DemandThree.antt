@@ -1,5 +1,5 @@
 -- Demand 3 for slots at one place (document 01, "What demand 3 compares"): one row count, one parity table, one mask
--- and one register. The clauses are a codeword's, said of header and data and of the slot's first 374 × R bits.
+-- and one register. The clauses on BCH bits are a codeword's as they stand.
 use mathlib.Core.Path.{_≡_, sym, ap, ap₂, _∙_}
 use mathlib.Core.List.{List, append-nil}
 use mathlib.Core.Logic.{_↔_}
@@ -9,14 +9,12 @@ use Rattle.bits.specs.Octets.{bitsOf, octetsOf}
 use Rattle.bits.specs.OctetLaws.{bits-octets}
 use Rattle.bits.specs.Sums.{added, addedThree, addedOctets}
 use Rattle.bits.specs.SumLaws.{length-three, three-bits}
-use Rattle.bch.specs.Polynomials.{Divides, polynomialOf}
-use Rattle.bch.specs.Bch.{generator, bchBits}
 use Rattle.ldpc.specs.Tables.{positions}
 use Rattle.ldpc.specs.Parity.{times}
 use Rattle.plan.specs.RateLaws.{Rows}
 use Rattle.plan.specs.Sizes.{slotOctets}
 use Rattle.codeword.specs.Words.{runBits, zeros, parityInput, wordOf}
-use Rattle.codeword.specs.Reading.{runIn, bchIn}
+use Rattle.codeword.specs.Reading.{runIn}
 use Rattle.codeword.specs.DemandThree as words
 use Rattle.slot.specs.Slots.{sourceOctets, coveredBits, stuffBits, slotShape, slotOf}
 use Rattle.slot.specs.SlotLaws.{Source, sizes, fits, message}
@@ -39,16 +37,6 @@ module _ (R : ℕ) (t : List ℕ) (mask r : ℕ) (x y : List ℕ) (w : Rows R) (
     (λ e. sym (coded-read R t mask r x w a .source) ∙ ap (sourceOf R mask r) e ∙ coded-read R t mask r y w b .source),
     ap (slotOf R t mask r),
   )
-
-  -- "all 192, both before dispersal ..": equal exactly when the generator divides the difference of header and data
-  pub bch-equal : (bchBits (bitsOf x) ≡ bchBits (bitsOf y)) ↔ Divides generator (polynomialOf (added (bitsOf x) (bitsOf y)))
-  bch-equal = words.bch-equal (slotShape R) t mask r (bitsOf x) (bitsOf y) stuffBits (fits R w) (message R x w (a .long)) (message R y w (b .long))
-
-  -- ".. and as sent"
-  pub bch-sent-equal : (bchIn (slotShape R) (bitsOf (slotOf R t mask r x)) ≡ bchIn (slotShape R) (bitsOf (slotOf R t mask r y)))
-      ↔ Divides generator (polynomialOf (added (bitsOf x) (bitsOf y)))
-  unfolding slotOf
-  bch-sent-equal = words.bch-sent-equal (slotShape R) t mask r (bitsOf x) (bitsOf y) stuffBits (fits R w) (message R x w (a .long)) (message R y w (b .long))
 
   -- the last M bits are equal exactly when the bits that differ among the first 374 × R, as sent, reach each position
   -- an even number of times

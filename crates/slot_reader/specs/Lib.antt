@@ -1,4 +1,2 @@
-pub mod Forms
-pub mod FormLaws
 pub mod ReadLaws
 pub mod Needs

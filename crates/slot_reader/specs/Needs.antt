@@ -1,15 +1,18 @@
--- What the functions ask of their arguments.
+-- What the functions ask of their arguments, and what reading a slot leaves.
 use mathlib.Core.Path.{_≡_}
 use mathlib.Core.Bool.{true}
 use mathlib.Core.List.{List}
 use Prim.Native.Nat.{ℕ, _^_, _<_}
+use lib.Dec.{eqb}
 use lib.ListN.{length}
+use Rattle.lists.specs.Choice.{pick}
 use Rattle.lists.specs.Runs.{Bits}
 use Rattle.ldpc.specs.Tables.{tableOk}
 use Rattle.plan.specs.RateLaws.{Rows}
 use Rattle.plan.specs.Sizes.{slotBits, slotOctets, slotWidth, mostParity}
 use Rattle.codeword.specs.Words.{runBits}
-use Rattle.slot.specs.Slots.{sourceOctets, slotShape}
+use Rattle.slot.specs.Slots.{sourceOctets, slotShape, registerAfter}
+use Rattle.slot.specs.Reading.{receivedNumber, sourceOf}
 
 -- a slot's octets and an accepted table, and areas for its bits, its parity input and its sums at any rate
 pub record Checked (R : ℕ) (t coded bits input sums : List ℕ) : Type 0 where
@@ -32,3 +35,9 @@ pub record Taken (R : ℕ) (plain source : List ℕ) : Type 0 where
   pub all : length plain ≡ runBits (slotShape R)
   pub bits : Bits plain
   pub long : length source ≡ sourceOctets R
+
+-- a slot read: number, register and area are those of the definitions
+pub record ReadOf (R : ℕ) (t : List ℕ) (mask r : ℕ) (c source : List ℕ) (n g : ℕ) (left : List ℕ) : Type 0 where
+  pub number : n ≡ receivedNumber R t mask r c
+  pub register : g ≡ registerAfter R mask r
+  pub area : left ≡ pick (eqb (receivedNumber R t mask r c) 0) (sourceOf R mask r c) source

@@ -7,8 +7,7 @@ ghost use Rattle.refusal.specs.Numbers.{STUFF};
 ghost use Rattle.codeword.specs.Reading.{messageIn};
 ghost use Rattle.slot.specs.Slots.{sourceOctets, slotShape};
 ghost use Rattle.slot.specs.Reading.{stuffRight};
-ghost use Rattle.slot_reader.specs.Needs.{Taken, Readable};
-ghost use Rattle.slot_reader.specs.Forms.{ReadOf};
+ghost use Rattle.slot_reader.specs.Needs.{Taken, Readable, ReadOf};
 use codeword::WordRead;
 
 // Six ones, as a number.

@@ -1,12 +1,13 @@
--- A coded TMCC block (document 01, "TMCC block"), for a rate 3 parity table t, and the mask and the start of the register:
+-- A TMCC block, coded and read (document 01, "TMCC block"), for a rate 3 parity table t, and the mask and the start of the register:
 -- a codeword of the TMCC bits with no tail, and with zeros before and behind it in the parity input.
-use mathlib.Core.List.{List, []}
+use mathlib.Core.List.{List, [], _++_}
 use Prim.Native.Nat.{ℕ}
-use lib.ListN.{take}
-use Rattle.bits.specs.Octets.{bitsOf}
+use lib.ListN.{take, replicate}
+use Rattle.bits.specs.Octets.{bitsOf, octetsOf}
 use Rattle.plan.specs.Sizes.{blockOctets, blockWidth}
 use Rattle.codeword.specs.declared.Shape.{Shape}
 use Rattle.codeword.specs.Words.{wordOf}
+use Rattle.codeword.specs.Reading.{takenOff, messageIn}
 
 -- "The rate 3 parity input": the 61 rows of rate 3
 abbrev pub blockRows : ℕ
@@ -31,3 +32,11 @@ messageOf source = take messageBits (bitsOf source)
 -- the block of the octets, its register "begun anew for each block"
 unfoldable pub blockOf : List ℕ → ℕ → ℕ → List ℕ → List ℕ
 blockOf t mask start source = wordOf blockShape t mask start (messageOf source) []
+
+-- the octets of TMCC bits u: "the last two bits are 0"
+unfoldable pub tailed : List ℕ → List ℕ
+tailed u = octetsOf sourceOctets (u ++ replicate 2 0)
+
+-- those of a received block, whose numbers, 8 and 9, are a codeword's
+unfoldable pub sourceOf : ℕ → ℕ → List ℕ → List ℕ
+sourceOf mask start c = tailed (messageIn blockShape (takenOff blockShape mask start c))

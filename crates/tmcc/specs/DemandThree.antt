@@ -1,9 +1,8 @@
--- Demand 3 for TMCC blocks (document 01, "What demand 3 compares"), under one parity table, one mask and one start: the
--- clauses are a codeword's, said of the TMCC bits.
+-- Demand 3 for TMCC blocks (document 01, "What demand 3 compares"), under one parity table, one mask and one start: three
+-- blocks added. The clauses on two blocks are a codeword's as they stand.
 use mathlib.Core.Path.{_≡_, ap, ap₂, _∙_}
 use mathlib.Core.Bool.{true}
 use mathlib.Core.List.{List, []}
-use mathlib.Core.Logic.{_↔_}
 use Prim.Native.Nat.{ℕ, _*_}
 use native.Mathlib.Omega.{arith}
 use lib.ListN.{length, drop, replicate}
@@ -13,40 +12,13 @@ use Rattle.bits.specs.OctetLaws.{bits-octets, length-bitsOf}
 use Rattle.bits.specs.OctetParts.{length-addedOctets}
 use Rattle.bits.specs.Sums.{added, addedThree, addedOctets}
 use Rattle.bits.specs.SumLaws.{added-take, added-drop, length-three, three-bits, three-same}
-use Rattle.bch.specs.Polynomials.{Divides, polynomialOf}
-use Rattle.bch.specs.Bch.{generator, bchBits}
 use Rattle.plan.specs.Sizes.{blockOctets}
 use Rattle.codeword.specs.Words.{wordOf}
-use Rattle.codeword.specs.Reading.{parityIn, bchIn, EvenTimes}
 use Rattle.codeword.specs.DemandThree as words
 use Rattle.tmcc.specs.Blocks.{sourceOctets, messageBits, blockShape, messageOf, blockOf}
 use Rattle.tmcc.specs.BlockLaws.{fits, message}
 use Rattle.tmcc.specs.Calls.{tailOk}
 use Rattle.tmcc.specs.CallLaws.{tail-right}
-
--- two blocks
-module _ (t : List ℕ) (mask start : ℕ) (x y : List ℕ) (a : length x ≡ sourceOctets) (b : length y ≡ sourceOctets) where
-  -- they are equal exactly when the 9,422 bits are
-  pub blocks-equal : (blockOf t mask start x ≡ blockOf t mask start y) ↔ (messageOf x ≡ messageOf y)
-  unfolding blockOf
-  blocks-equal = words.words-equal blockShape t mask start (messageOf x) (messageOf y) [] fits (message x a) (message y b)
-
-  -- "all 192, both before dispersal ..": equal exactly when the generator divides the difference of the TMCC bits
-  pub bch-equal : (bchBits (messageOf x) ≡ bchBits (messageOf y)) ↔ Divides generator (polynomialOf (added (messageOf x) (messageOf y)))
-  bch-equal = words.bch-equal blockShape t mask start (messageOf x) (messageOf y) [] fits (message x a) (message y b)
-
-  -- ".. and as sent"
-  pub bch-sent-equal : (bchIn blockShape (bitsOf (blockOf t mask start x)) ≡ bchIn blockShape (bitsOf (blockOf t mask start y)))
-      ↔ Divides generator (polynomialOf (added (messageOf x) (messageOf y)))
-  unfolding blockOf
-  bch-sent-equal = words.bch-sent-equal blockShape t mask start (messageOf x) (messageOf y) [] fits (message x a) (message y b)
-
-  -- the last 22,066 bits are equal exactly when the bits that differ in "the whole parity input of a block" reach each
-  -- position an even number of times
-  pub parity-equal : (parityIn blockShape (blockOf t mask start x) ≡ parityIn blockShape (blockOf t mask start y))
-      ↔ EvenTimes blockShape t (blockOf t mask start x) (blockOf t mask start y)
-  unfolding blockOf
-  parity-equal = words.parity-equal blockShape t mask start (messageOf x) (messageOf y) [] fits (message x a) (message y b)
 
 -- the bits of three sources added, their TMCC bits and their last two
 module _ (x y z : List ℕ) (a : length x ≡ sourceOctets) where

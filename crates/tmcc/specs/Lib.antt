@@ -1,7 +1,5 @@
 pub mod Blocks
 pub mod BlockLaws
-pub mod Reading
-pub mod ReadingLaws
 pub mod Calls
 pub mod CallLaws
 pub mod RoundTrips

@@ -16,10 +16,8 @@ use Rattle.codeword.specs.ReadingLaws.{Received, takenOff-long}
 use Rattle.codeword.specs.CallLaws as given
 use Rattle.codeword.specs.RoundTrips as words
 use Rattle.codeword.specs.RoundTrips.{ReadsAs}
-use Rattle.tmcc.specs.Blocks.{sourceOctets, messageBits, blockShape, messageOf, blockOf}
-use Rattle.tmcc.specs.BlockLaws.{fits, message, length-blockOf}
-use Rattle.tmcc.specs.Reading.{tailed, sourceOf}
-use Rattle.tmcc.specs.ReadingLaws.{length-sourceOf, sourceOf-message, sourceOf-tail}
+use Rattle.tmcc.specs.Blocks.{sourceOctets, messageBits, blockShape, messageOf, blockOf, tailed, sourceOf}
+use Rattle.tmcc.specs.BlockLaws.{fits, message, length-blockOf, length-sourceOf, sourceOf-message, sourceOf-tail}
 use Rattle.tmcc.specs.Calls.{lentNumber, tailOk, codeNumber, readNumber}
 use Rattle.tmcc.specs.CallLaws.{lent, codable, tail-right}
 

@@ -2,8 +2,7 @@
 ghost use mathlib.Core.Path.{_≡_};
 ghost use Rattle.refusal.specs.Answers.{Answered};
 ghost use Rattle.codeword.specs.Reading.{messageIn, wordNumber};
-ghost use Rattle.tmcc.specs.Blocks.{blockShape};
-ghost use Rattle.tmcc.specs.Reading.{tailed, sourceOf};
+ghost use Rattle.tmcc.specs.Blocks.{blockShape, tailed, sourceOf};
 ghost use Rattle.tmcc.specs.Calls.{readNumber};
 ghost use Rattle.tmcc_reader.specs.Needs.{Taken, Readable};
 use tmcc::INPUT_BITS;

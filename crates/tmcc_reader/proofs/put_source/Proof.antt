@@ -11,8 +11,7 @@ use Rattle.lists.specs.PartLaws.{length-part, put-lent, take-put-end}
 use Rattle.lists.specs.RunLaws.{below-take, below-append, below-replicate}
 use Rattle.bits.specs.Octets.{octetsOf}
 use Rattle.codeword.specs.Reading.{messageIn}
-use Rattle.tmcc.specs.Blocks.{blockShape}
-use Rattle.tmcc.specs.Reading.{tailed}
+use Rattle.tmcc.specs.Blocks.{blockShape, tailed}
 use Rattle.tmcc_reader.proofs.put_source.Statement.{statement}
 use Rattle.tmcc_reader.proofs.put_source.Tie as tie
 

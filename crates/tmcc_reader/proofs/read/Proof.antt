@@ -10,8 +10,7 @@ use Rattle.refusal.specs.AnswerLaws.{refused, accepted}
 use Rattle.codeword.specs.Reading.{messageIn}
 use Rattle.codeword.specs.ReadingLaws.{takenOff-bits}
 use Rattle.codeword.specs.Needs.{ReadOf}
-use Rattle.tmcc.specs.Blocks.{blockShape}
-use Rattle.tmcc.specs.Reading.{tailed, sourceOf}
+use Rattle.tmcc.specs.Blocks.{blockShape, tailed, sourceOf}
 use Rattle.tmcc_reader.proofs.read.Statement.{statement}
 use Rattle.tmcc_reader.proofs.read.Tie as tie
 

@@ -6,16 +6,16 @@ use lib.ListN.{length-replicate}
 use Rattle.lists.specs.ChoiceLaws.{then-first, then-next}
 use Rattle.plan.specs.RateLaws.{rate-rows}
 use Rattle.slot.specs.Reading.{checkedNumber}
-use Rattle.slot_reader.specs.Forms.{formNumber}
-use Rattle.slot_reader.specs.FormLaws.{formed, checkNumber-is}
+use Rattle.slot.specs.Calls.{formNumber, checkNumber}
+use Rattle.slot_reader.specs.ReadLaws.{formed}
 use Rattle.slot_reader.proofs.check.check_parity.Statement.{statement}
 use Rattle.slot_reader.proofs.check.check_parity.Tie as tie
 
 returns : tie.Need-returns
+unfolding checkNumber
 returns c =
-    let a = c .before .before .before .before .args in
     let e = c .before .form-number .ensures in
-    e ∙ sym (checkNumber-is (a .rate) (a .table .now) (a .coded .now) ∙ then-first _ _ (λ z. c .if1 .taken (e ∙ z)))
+    e ∙ sym (then-first _ _ (λ z. c .if1 .taken (e ∙ z)))
 
 -- nothing is refused before the parity
 passed : (c : tie.Else1) → let a = c .before .before .before .before .args in formNumber (a .rate) (a .table .now) (a .coded .now) ≡ 0
@@ -36,12 +36,13 @@ checked-number-requires c κs =
     }
 
 returns-2 : tie.Need-returns-2
+unfolding checkNumber
 returns-2 c =
     let n = c .before .before .before .before .before .before .before in
     let a = n .before .before .before .before .before .args in
     c .before .before .before .checked-number .ensures
     ∙ ap (λ (R : ℕ). checkedNumber R (a .table .now) (a .coded .now)) (n .rows .ensures)
-    ∙ sym (checkNumber-is (a .rate) (a .table .now) (a .coded .now) ∙ then-next _ _ (passed (n .before)))
+    ∙ sym (then-next _ _ (passed (n .before)))
 
 pub check-parity-spec : {M : Type 1} → statement M
 check-parity-spec = tie.close (tie.spec (λ c κs. search needs) returns (λ c κs. search needs) (λ c. search needs) (λ c. search needs) (λ c. search needs) checked-number-requires returns-2)

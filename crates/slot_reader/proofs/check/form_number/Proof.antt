@@ -8,7 +8,7 @@ use borrow.Author.Tests.{not-true, not-false, eq-eqb, ne-eqb}
 use Rattle.ldpc.specs.Tables.{tableOk}
 use Rattle.plan.specs.Rates.{rateOk, rowsOf}
 use Rattle.plan.specs.RateLaws.{rate-rows}
-use Rattle.slot_reader.specs.Forms.{formNumber}
+use Rattle.slot.specs.Calls.{formNumber}
 use Rattle.slot_reader.proofs.check.form_number.Statement.{statement}
 use Rattle.slot_reader.proofs.check.form_number.Tie as tie
 

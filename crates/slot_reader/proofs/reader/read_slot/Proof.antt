@@ -10,7 +10,7 @@ use Rattle.plan.specs.States.{movedOn, stateNumber}
 use Rattle.slot.specs.Slots.{sourceOctets}
 use Rattle.slot.specs.Calls.{slotNumber, dataNumber}
 use Rattle.slot.specs.CallLaws.{Accepted-slot, accepted-slot}
-use Rattle.slot_reader.specs.Forms.{ReadOf}
+use Rattle.slot_reader.specs.Needs.{ReadOf}
 use Rattle.slot_reader.specs.ReadLaws.{answer≡, readAnswer-refused, readArea-refused, readAnswer-looked, readArea-looked}
 use Rattle.slot_reader.proofs.reader.read_slot.Statement.{statement}
 use Rattle.slot_reader.proofs.reader.read_slot.Tie as tie
