@@ -1,6 +1,7 @@
 // Whole walks through a frame: the register stands still over dummies, and `full` comes behind slot 120 and not before.
 ghost use mathlib.Core.Path.{_≡_};
 ghost use lib.ListN.{length};
+ghost use Rattle.plan.specs.Sizes.{frameOctets};
 use crate::lines::line;
 use crate::lines::same;
 use crate::plans::of_counts;
@@ -57,7 +58,7 @@ fn code_116(state: FrameState, table: &[u16], source: &[u8], coded: &mut [u8]) {
 
 // The same slot by the call on the whole frame.
 fn by_frame(tables: &[u16], sources: &[u8], frame: &mut [u8], coded: &[u8])
-    requires { ⌜ length (now frame) ≡ 673200 ⌝ }
+    requires { ⌜ length (now frame) ≡ frameOctets ⌝ }
 {
     let number = frame_coder::code_frame(of_counts(2, 115, 5), MASK, START, tables, sources, frame);
     line(b"the whole frame coded ", number as u64);
@@ -89,7 +90,7 @@ fn whole(
     coded: &[u8; plan::SLOT_OCTETS],
     tables: &mut [u16; 827],
     sources: &[u8; 403370],
-    frame: &mut [u8; 673200],
+    frame: &mut [u8; plan::FRAME_OCTETS],
 ) {
     put_tables(tables);
     by_frame(tables, sources, frame, coded);
@@ -106,7 +107,7 @@ fn through_dummies() {
     code_116(state, &of_3, &[0u8; 2827], &mut coded);
     let mut tables = [0u16; 827];
     let sources = [0u8; 403370];
-    let mut frame = [0u8; 673200];
+    let mut frame = [0u8; plan::FRAME_OCTETS];
     whole(&coded, &mut tables, &sources, &mut frame);
 }
 

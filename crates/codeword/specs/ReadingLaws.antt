@@ -10,7 +10,8 @@ use borrow.Author.Tests.{eqb-true, eq-eqb}
 use lib.Dec.{eqb}
 use lib.ListN.{length, length-drop}
 use lib.Seq.{length-take-le}
-use Rattle.lists.specs.ChoiceLaws.{then-zero, not-refused}
+use Rattle.lists.specs.Choice.{pick}
+use Rattle.lists.specs.ChoiceLaws.{then-zero, then-both, not-refused}
 use Rattle.lists.specs.Runs.{Bits, Octets}
 use Rattle.lists.specs.RunLaws.{below-take, below-drop}
 use Rattle.refusal.specs.Numbers.{PARITY, BCH}
@@ -98,5 +99,5 @@ word-good F t mask r c f l =
       (λ h.
           let a = then-zero (parityNumber F (wrongPosition F t c)) _ h in
           record { parity = p .0 (a .0); bch = b .0 (not-refused (bchRight F u) BCH (omega arith) (a .1)) }),
-      (λ g. rw (p .1 (g .parity), b .1 (g .bch))),
+      (λ g. then-both (parityNumber F (wrongPosition F t c)) _ (p .1 (g .parity)) (ap (λ x. pick x 0 BCH) (b .1 (g .bch)))),
     )

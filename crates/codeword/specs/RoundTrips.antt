@@ -4,7 +4,8 @@ use mathlib.Core.Path.{_≡_, sym, ap, _∙_}
 use mathlib.Core.List.{List}
 use Prim.Native.Nat.{ℕ}
 use lib.ListN.{length, take-append-drop}
-use Rattle.lists.specs.ThreeRuns.{first-of-three, second-of-three, third-of-three, three-whole}
+use lib.Seq.{take-at}
+use Rattle.lists.specs.ThreeRuns.{second-of-three, third-of-three, three-whole}
 use Rattle.bits.specs.Octets.{bitsOf}
 use Rattle.bits.specs.OctetLaws.{octets-bits}
 use Rattle.dispersal.specs.Dispersal.{dispersed}
@@ -22,7 +23,7 @@ use Rattle.codeword.specs.ReadingLaws.{Received, Good, word-good, runIn-
 module _ (F : Shape) (m e : List ℕ) (l : length m ≡ F .message) where
   plain-message : messageIn F (plain m e) ≡ m
   unfolding plain
-  plain-message = first-of-three m (bchBits m) e (F .message) 192 l (length-bchBits m)
+  plain-message = take-at m _ (F .message) l
 
   plain-bch : bchIn F (plain m e) ≡ bchBits m
   unfolding plain

@@ -74,14 +74,6 @@ module _ (F : Shape) where
   unfolding withParity
   withParity-bits t d z = below-append 1 d _ z (parityOf-bits (F .rows) t _)
 
-  pub length-wordOf : (t : List ℕ) (mask r : ℕ) (m e : List ℕ) → length (wordOf F t mask r m e) ≡ F .octets
-  unfolding wordOf
-  length-wordOf t mask r m e = length-octetsOf (F .octets) _
-
-  pub wordOf-octets : (t : List ℕ) (mask r : ℕ) (m e : List ℕ) → Octets (wordOf F t mask r m e)
-  unfolding wordOf
-  wordOf-octets t mask r m e = octetsOf-octets (F .octets) _ (withParity-bits t _ (sent-bits mask r m e))
-
 module _ (F : Shape) (t : List ℕ) (mask r : ℕ) (m e : List ℕ) (f : Fits F) (o : Message F m e) where
   -- the bits before the parity, as sent
   pub length-run : length (sent F mask r m e) ≡ runBits F
@@ -102,3 +94,12 @@ module _ (F : Shape) (t : List ℕ) (mask r : ℕ) (m e : List ℕ) (f : Fits F)
   pub word-parity : drop (runBits F) (bitsOf (wordOf F t mask r m e)) ≡ parityOf (F .rows) t (parityInput F (sent F mask r m e))
   unfolding withParity
   word-parity = rw word-bits (drop-at (sent F mask r m e) _ (runBits F) length-run)
+
+module _ (F : Shape) where
+  pub length-wordOf : (t : List ℕ) (mask r : ℕ) (m e : List ℕ) → length (wordOf F t mask r m e) ≡ F .octets
+  unfolding wordOf
+  length-wordOf t mask r m e = length-octetsOf (F .octets) _
+
+  pub wordOf-octets : (t : List ℕ) (mask r : ℕ) (m e : List ℕ) → Octets (wordOf F t mask r m e)
+  unfolding wordOf
+  wordOf-octets t mask r m e = octetsOf-octets (F .octets) _ (withParity-bits F t _ (sent-bits F mask r m e))

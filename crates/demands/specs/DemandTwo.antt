@@ -15,7 +15,7 @@ use Rattle.lists.specs.RunLaws.{below-part}
 use Rattle.refusal.specs.Numbers.{DUMMY}
 use Rattle.plan.specs.declared.Plan.{Plan}
 use Rattle.plan.specs.declared.FrameState.{FrameState}
-use Rattle.plan.specs.Sizes.{slotOctets}
+use Rattle.plan.specs.Sizes.{slotOctets, frameOctets}
 use Rattle.plan.specs.Places.{carries}
 use Rattle.plan.specs.States.{passed}
 use Rattle.symbols.specs.CallLaws.{slot-labels-slot, labels-slot-labels, block-labels-block, labels-block-labels}
@@ -28,7 +28,7 @@ use Rattle.slot.specs.RoundTrips as slots
 use Rattle.tmcc.specs.RoundTrips as blocks
 use Rattle.frame.specs.Steps.{tableAt, codedAt, answerAt, readAt}
 use Rattle.frame.specs.StepLaws.{coded-data, coded-dummy, answer-data, answer-dummy, read-dummy}
-use Rattle.frame.specs.Frames.{frameOctets, rowsOfSlot, registerBefore, stateBefore, slotIn, octetsOfSlot, sourceFrom, sourceIn, frameOf, answersOf, sourcesOf, frameNumber, readFrameNumber}
+use Rattle.frame.specs.Frames.{rowsOfSlot, registerBefore, stateBefore, slotIn, octetsOfSlot, sourceFrom, sourceIn, frameOf, answersOf, sourcesOf, frameNumber, readFrameNumber}
 use Rattle.frame.specs.FrameLaws.{At, at, sourceFrom-none, sourceFrom-more, data-long, length-slotIn, length-frameOf, length-sourcesOf, slot-at, answer-at, source-at}
 use Rattle.frame.specs.CallLaws.{Lent, frame-lent, frame-yes, read-lent, read-yes}
 use Rattle.frame.specs.Walks.{codedTo, readTo}

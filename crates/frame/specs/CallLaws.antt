@@ -9,10 +9,11 @@ use lib.Dec.{eqb}
 use Rattle.lists.specs.Choice.{pick, andThen}
 use Rattle.lists.specs.ChoiceLaws.{and-left, and-right, then-zero, not-refused}
 use Rattle.refusal.specs.Numbers.{LENGTH, TABLE}
+use Rattle.plan.specs.Sizes.{frameOctets}
 use Rattle.plan.specs.declared.Plan.{Plan}
 use Rattle.plan.specs.States.{openNumber}
 use Rattle.frame.specs.Tables.{tablesOk}
-use Rattle.frame.specs.Frames.{frameOctets, sourceFrom, frameNumber, readFrameNumber}
+use Rattle.frame.specs.Frames.{sourceFrom, frameNumber, readFrameNumber}
 
 -- an accepted plan with its settings and tables, and areas of these lengths
 pub record Lent (p : Plan) (mask start : ℕ) (ts : List ℕ) (source frame : ℕ) : Type 0 where

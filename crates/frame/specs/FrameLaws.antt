@@ -15,7 +15,7 @@ use Rattle.dispersal.specs.Register.{registerOk}
 use Rattle.dispersal.specs.RegisterLaws.{after-ok}
 use Rattle.ldpc.specs.Tables.{tableOk}
 use Rattle.plan.specs.declared.Plan.{Plan}
-use Rattle.plan.specs.Sizes.{slotWidth, slotOctets}
+use Rattle.plan.specs.Sizes.{slotWidth, slotOctets, frameOctets}
 use Rattle.plan.specs.RateLaws.{Rows, rows-most}
 use Rattle.plan.specs.Plans.{rateOf}
 use Rattle.plan.specs.PlanLaws.{accepted}
@@ -30,7 +30,7 @@ use Rattle.frame.specs.Tables.{tablesOk}
 use Rattle.frame.specs.TableLaws.{table-ok}
 use Rattle.frame.specs.Steps.{tableAt, codedAt, answerAt, readAt, stateAfter}
 use Rattle.frame.specs.StepLaws.{length-coded, length-read}
-use Rattle.frame.specs.Frames.{frameOctets, rowsOfSlot, registerBefore, stateBefore, slotIn, octetsOfSlot, sourceFrom, sourceIn, frameOf, answersOf, sourcesOf}
+use Rattle.frame.specs.Frames.{rowsOfSlot, registerBefore, stateBefore, slotIn, octetsOfSlot, sourceFrom, sourceIn, frameOf, answersOf, sourcesOf}
 
 module _ (p : Plan) where
   pub sourceFrom-none : sourceFrom p 0 ≡ 0

@@ -10,7 +10,7 @@ use Rattle.lists.specs.Parts.{part}
 use Rattle.refusal.specs.Numbers.{LENGTH, TABLE}
 use Rattle.plan.specs.declared.Plan.{Plan}
 use Rattle.plan.specs.declared.FrameState.{FrameState}
-use Rattle.plan.specs.Sizes.{slotOctets}
+use Rattle.plan.specs.Sizes.{slotOctets, frameOctets}
 use Rattle.plan.specs.Records.{stateAt}
 use Rattle.plan.specs.Rates.{rowsOf}
 use Rattle.plan.specs.Plans.{rateOf}
@@ -19,10 +19,6 @@ use Rattle.plan.specs.States.{openNumber}
 use Rattle.slot.specs.Slots.{sourceOctets, registerAfter}
 use Rattle.frame.specs.Tables.{tablesOk}
 use Rattle.frame.specs.Steps.{codedAt, answerAt, readAt}
-
--- "one lent area of 673,200 octets"
-abbrev pub frameOctets : ℕ
-frameOctets = 673200
 
 -- the rows of slot s's parity table
 abbrev pub rowsOfSlot : Plan → ℕ → ℕ

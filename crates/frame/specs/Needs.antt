@@ -4,10 +4,10 @@ use mathlib.Core.Bool.{true}
 use mathlib.Core.List.{List}
 use Prim.Native.Nat.{ℕ, _≤_}
 use lib.ListN.{length, getD}
+use Rattle.plan.specs.Records.{planIn}
 use Rattle.plan.specs.declared.Plan.{Plan}
 use Rattle.plan.specs.declared.FrameState.{FrameState}
 use Rattle.plan.specs.Plans.{planNumber}
-use Rattle.plan.specs.States.{planIn}
 use Rattle.plan.specs.StateLaws.{Ready}
 use Rattle.frame.specs.Tables.{tableFrom, tablesOk}
 use Rattle.frame.specs.Frames.{octetsOfSlot}

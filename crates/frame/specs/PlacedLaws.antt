@@ -7,13 +7,13 @@ use native.Mathlib.Omega.{arith}
 use lib.ListN.{length, getD}
 use Rattle.lists.specs.Parts.{part}
 use Rattle.ldpc.specs.Tables.{tableOk}
+use Rattle.plan.specs.Records.{planIn}
 use Rattle.plan.specs.declared.Plan.{Plan}
 use Rattle.plan.specs.declared.FrameState.{FrameState}
 use Rattle.plan.specs.Sizes.{slotOctets}
 use Rattle.plan.specs.PlanLaws.{accepted}
 use Rattle.plan.specs.Places.{groupAt, carries}
 use Rattle.plan.specs.PlaceLaws.{Holds, group-holds}
-use Rattle.plan.specs.States.{planIn}
 use Rattle.slot.specs.Calls.{rowsAt, slotNumber}
 use Rattle.slot.specs.CallLaws.{rows-known, slot-yes}
 use Rattle.frame.specs.Tables.{tableFrom, tableOf}

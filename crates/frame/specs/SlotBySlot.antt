@@ -10,10 +10,11 @@ use borrow.Author.Tests.{eq-eqb}
 use lib.ListN.{length}
 use Rattle.lists.specs.Choice.{pick}
 use Rattle.lists.specs.ChoiceLaws.{then-next}
+use Rattle.plan.specs.Records.{planIn}
 use Rattle.plan.specs.declared.Plan.{Plan}
 use Rattle.plan.specs.declared.FrameState.{FrameState}
 use Rattle.plan.specs.Places.{carries}
-use Rattle.plan.specs.States.{planIn, opened, passNumber, passed}
+use Rattle.plan.specs.States.{opened, passNumber, passed}
 use Rattle.plan.specs.StateLaws.{Ready, pass-yes}
 use Rattle.slot.specs.Calls.{rowsAt, slotNumber, codeAnswer, codeArea, readNumber, readAnswer, readArea}
 use Rattle.slot.specs.CallLaws.{slot-yes}

@@ -7,10 +7,11 @@ use lib.Dec.{eqb}
 use lib.ListN.{length}
 use Rattle.lists.specs.Choice.{pick}
 use Rattle.refusal.specs.Numbers.{DUMMY}
+use Rattle.plan.specs.Records.{planIn}
 use Rattle.plan.specs.declared.FrameState.{FrameState}
 use Rattle.plan.specs.Sizes.{slotOctets}
 use Rattle.plan.specs.Places.{carries}
-use Rattle.plan.specs.States.{planIn, movedOn}
+use Rattle.plan.specs.States.{movedOn}
 use Rattle.slot.specs.Slots.{sourceOctets, slotOf}
 use Rattle.slot.specs.SlotLaws.{length-slotOf}
 use Rattle.slot.specs.Reading.{receivedNumber, sourceOf}

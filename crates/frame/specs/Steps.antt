@@ -5,9 +5,10 @@ use Prim.Native.Nat.{ℕ}
 use lib.Dec.{eqb}
 use Rattle.lists.specs.Choice.{pick}
 use Rattle.refusal.specs.Numbers.{DUMMY}
+use Rattle.plan.specs.Records.{planIn}
 use Rattle.plan.specs.declared.FrameState.{FrameState}
 use Rattle.plan.specs.Places.{groupAt, carries}
-use Rattle.plan.specs.States.{planIn, movedOn}
+use Rattle.plan.specs.States.{movedOn}
 use Rattle.slot.specs.Slots.{slotOf}
 use Rattle.slot.specs.Reading.{receivedNumber, sourceOf}
 use Rattle.slot.specs.Calls.{rowsAt, nextState}

@@ -3,7 +3,6 @@ ghost use mathlib.Core.Path.{_≡_};
 ghost use lib.ListN.{length};
 ghost use Rattle.frame.specs.Frames.{readFrameNumber};
 ghost use Rattle.frame.specs.Needs.{Ends};
-use crate::FRAME_OCTETS;
 use crate::SLOTS;
 use crate::sources::source_length;
 use crate::tables::find_tables;
@@ -35,7 +34,7 @@ pub fn frame_number(
     if source != source_length(plan) {
         return refusal::LENGTH;
     }
-    if frame != FRAME_OCTETS {
+    if frame != plan::FRAME_OCTETS {
         return refusal::LENGTH;
     }
     if find_tables(plan, tables, ends) {

@@ -9,6 +9,3 @@ pub use sources::slot_octets;
 
 // The slots of a frame.
 pub const SLOTS: usize = 120;
-
-// A whole frame, 5,610 octets for each slot.
-const FRAME_OCTETS: usize = 673200;

@@ -16,6 +16,14 @@ slotWidth = 25
 abbrev pub mostParity : ℕ
 mostParity = 29546
 
+-- header and data octets of rate 11, "header 176" bits and 27 "packets of 187 octets": no slot has more
+abbrev pub mostSource : ℕ
+mostSource = 5071
+
+-- "one lent area of 673,200 octets"
+abbrev pub frameOctets : ℕ
+frameOctets = 673200
+
 -- "As symbols the block is 31,680 BPSK labels in bit order": a label for each bit
 abbrev pub blockBits : ℕ
 blockBits = 31680

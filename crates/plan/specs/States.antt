@@ -8,9 +8,8 @@ use Rattle.dispersal.specs.Register.{registerOk, settingsOk}
 use Rattle.plan.specs.declared.Plan.{Plan}
 use Rattle.plan.specs.declared.FrameState.{FrameState}
 use Rattle.plan.specs.declared.Answer.{Answer}
-pub use Rattle.plan.specs.Sizes.{slotWidth}
-use Rattle.plan.specs.Records.{noPlan, stateAt}
-pub use Rattle.plan.specs.Records.{planIn}
+use Rattle.plan.specs.Sizes.{slotWidth}
+use Rattle.plan.specs.Records.{noPlan, stateAt, planIn}
 use Rattle.plan.specs.Plans.{planNumber}
 use Rattle.plan.specs.Places.{carries}
 

@@ -22,7 +22,8 @@ pub use state::open;
 pub use state::pass;
 pub use state::state_number;
 
-// A slot: its bits, its octets, the width of its register, and the most parity bits that one has.
+// A slot: its bits, its octets, the width of its register, and the most parity bits, and the most header and data octets,
+// that one has.
 pub const SLOT_BITS: usize = 44880;
 
 pub const SLOT_OCTETS: usize = 5610;
@@ -30,6 +31,11 @@ pub const SLOT_OCTETS: usize = 5610;
 pub const SLOT_WIDTH: u32 = 25;
 
 pub const MOST_PARITY: usize = 29546;
+
+pub const MOST_SOURCE: usize = 5071;
+
+// A whole frame, 120 slots.
+pub const FRAME_OCTETS: usize = 673200;
 
 // A TMCC block: its bits, its octets and the width of its register.
 pub const BLOCK_BITS: usize = 31680;

@@ -3,9 +3,10 @@ use mathlib.Core.Path.{_≡_}
 use mathlib.Core.List.{List}
 use Prim.Native.Nat.{ℕ}
 use lib.ListN.{length}
+use Rattle.plan.specs.Sizes.{mostSource}
 
 -- an area for a table, and two for header and data octets, those to code and those that reading finds
 pub record Room (table source found : List ℕ) : Type 0 where
   pub numbers : length table ≡ 510
-  pub octets : length source ≡ 5071
-  pub others : length found ≡ 5071
+  pub octets : length source ≡ mostSource
+  pub others : length found ≡ mostSource

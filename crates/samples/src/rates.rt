@@ -1,5 +1,6 @@
 // A frame whose slots all have one rate.
 ghost use Prim.Native.Nat.{_≤_};
+ghost use Rattle.plan.specs.Sizes.{mostSource};
 use plan::FrameState;
 use plan::Plan;
 
@@ -26,7 +27,7 @@ pub fn opened(rate: u16) -> FrameState {
 
 // The header and data octets of a slot.
 pub fn source_length(rate: u16) -> usize
-    ensures { λ r. ⌜ r ≤ 5071 ⌝ }
+    ensures { λ r. ⌜ r ≤ mostSource ⌝ }
 {
     22 + plan::data_octets(rate)
 }

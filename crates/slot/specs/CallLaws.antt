@@ -6,13 +6,14 @@ use Prim.Native.Nat.{ℕ}
 use native.Mathlib.Omega.{arith}
 use Rattle.lists.specs.ChoiceLaws.{then-zero, then-both, not-refused}
 use Rattle.refusal.specs.Numbers.{DUMMY}
+use Rattle.plan.specs.Records.{planIn}
 use Rattle.plan.specs.declared.FrameState.{FrameState}
 use Rattle.plan.specs.RateLaws.{Rows, rate-rows}
 use Rattle.plan.specs.Plans.{rateOf}
 use Rattle.plan.specs.PlanLaws.{accepted, group-values}
 use Rattle.plan.specs.Places.{groupAt, carries}
 use Rattle.plan.specs.PlaceLaws.{group-holds}
-use Rattle.plan.specs.States.{planIn, stateNumber}
+use Rattle.plan.specs.States.{stateNumber}
 use Rattle.plan.specs.StateLaws.{Ready, ready, ready-yes}
 use Rattle.codeword.specs.CallLaws.{Lent, lent, lent-yes}
 use Rattle.slot.specs.Slots.{sourceOctets, slotShape}

@@ -7,13 +7,14 @@ use lib.ListN.{length}
 use Rattle.lists.specs.Choice.{pick, andThen}
 use Rattle.refusal.specs.Numbers.{PLAN, DUMMY, LENGTH, TABLE}
 use Rattle.ldpc.specs.Tables.{tableOk}
+use Rattle.plan.specs.Records.{planIn}
 use Rattle.plan.specs.declared.FrameState.{FrameState}
 use Rattle.plan.specs.declared.Answer.{Answer}
 use Rattle.plan.specs.Rates.{rateOk, rowsOf}
 use Rattle.plan.specs.Sizes.{slotOctets}
 use Rattle.plan.specs.Plans.{rateOf}
 use Rattle.plan.specs.Places.{groupAt, carries}
-use Rattle.plan.specs.States.{planIn, movedOn, answer, stateNumber}
+use Rattle.plan.specs.States.{movedOn, answer, stateNumber}
 use Rattle.codeword.specs.Calls.{lentNumber as wordLentNumber}
 use Rattle.slot.specs.Slots.{sourceOctets, slotShape, slotOf, registerAfter}
 use Rattle.slot.specs.Reading.{receivedNumber, sourceOf, checkedNumber}

@@ -21,6 +21,7 @@ use Rattle.bits.specs.OctetLaws.{octets-bits}
 use Rattle.dispersal.specs.Register.{registerOk, settingsOk}
 use Rattle.dispersal.specs.RegisterLaws.{after-ok}
 use Rattle.ldpc.specs.Tables.{tableOk}
+use Rattle.plan.specs.Records.{planIn}
 use Rattle.plan.specs.RateLaws.{Rows}
 use Rattle.plan.specs.declared.Plan.{Plan}
 use Rattle.plan.specs.declared.FrameState.{FrameState}
@@ -28,7 +29,7 @@ use Rattle.plan.specs.declared.Answer.{Answer}
 use Rattle.plan.specs.Plans.{groupsOk, valuesOk, fallsAfter, slotsBefore, planNumber}
 use Rattle.plan.specs.Places.{carries}
 use Rattle.plan.specs.Sizes.{slotOctets, slotWidth}
-use Rattle.plan.specs.States.{planIn, soundNumber, stateNumber}
+use Rattle.plan.specs.States.{soundNumber, stateNumber}
 use Rattle.plan.specs.StateLaws.{sound-yes, moved-sound}
 use Rattle.codeword.specs.Words.{wordOf}
 use Rattle.codeword.specs.Calls.{lentNumber as wordLentNumber}

@@ -7,7 +7,7 @@ use samples::START;
 
 // Makes what is coded next depend on the frame before it.
 fn carry(frame: &[u8], source: &mut [u8]) {
-    if frame.len() == 673200 {
+    if frame.len() == plan::FRAME_OCTETS {
         if 0 < source.len() {
             source[0] = frame[673199];
         }
@@ -106,7 +106,7 @@ fn lent(
     table: &mut [u16; 510],
     source: &mut [u8; 608520],
     found: &mut [u8; 608520],
-    frame: &mut [u8; 673200],
+    frame: &mut [u8; plan::FRAME_OCTETS],
 ) {
     with_areas(rate, codings, readings, table, source, found, frame);
 }
@@ -116,7 +116,7 @@ pub fn of_rate(rate: u16, codings: u64, readings: u64) {
     let mut table = [0u16; 510];
     let mut source = [0u8; 608520];
     let mut found = [0u8; 608520];
-    let mut frame = [0u8; 673200];
+    let mut frame = [0u8; plan::FRAME_OCTETS];
     lent(
         rate,
         codings,

@@ -102,7 +102,7 @@ fn with_areas(
 // Codes and reads slots of a rate, and writes their line.
 pub fn of_rate(rate: u16, codings: u64, readings: u64) {
     let mut table = [0u16; 510];
-    let mut source = [0u8; 5071];
-    let mut found = [0u8; 5071];
+    let mut source = [0u8; plan::MOST_SOURCE];
+    let mut found = [0u8; plan::MOST_SOURCE];
     with_areas(rate, codings, readings, &mut table, &mut source, &mut found);
 }

@@ -106,7 +106,7 @@ fn with_areas(rate: u16, table: &mut [u16], source: &mut [u8], found: &mut [u8])
 // The lines of a rate.
 pub fn of_rate(rate: u16) {
     let mut table = [0u16; 510];
-    let mut source = [0u8; 5071];
-    let mut found = [0u8; 5071];
+    let mut source = [0u8; plan::MOST_SOURCE];
+    let mut found = [0u8; plan::MOST_SOURCE];
     with_areas(rate, &mut table, &mut source, &mut found);
 }

@@ -6,12 +6,12 @@ use lib.Dec.{eqb}
 use lib.ListN.{length, drop, replicate}
 use Rattle.lists.specs.Choice.{pick, andThen}
 use Rattle.refusal.specs.Numbers.{LENGTH}
+use Rattle.plan.specs.Records.{planIn}
 use Rattle.plan.specs.declared.FrameState.{FrameState}
 use Rattle.plan.specs.declared.Answer.{Answer}
 use Rattle.plan.specs.Rates.{dataOctetsOf, packetsOf}
 use Rattle.plan.specs.Plans.{rateOf}
 use Rattle.plan.specs.Places.{groupAt}
-use Rattle.plan.specs.States.{planIn}
 use Rattle.packets.specs.Packets.{packed, unpacked, packNumber}
 use Rattle.slot.specs.Slots.{sourceOctets}
 use Rattle.slot.specs.Reading.{sourceOf}

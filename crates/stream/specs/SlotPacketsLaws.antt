@@ -11,13 +11,15 @@ use lib.Seq.{length-take-le}
 use Rattle.lists.specs.Choice.{pick}
 use Rattle.lists.specs.ChoiceLaws.{then-zero, then-first, then-next, not-refused}
 use Rattle.refusal.specs.Numbers.{LENGTH}
+use Rattle.plan.specs.Sizes.{mostSource}
+use Rattle.plan.specs.Records.{planIn}
 use Rattle.plan.specs.declared.FrameState.{FrameState}
 use Rattle.plan.specs.Rates.{rateOk, rowsOf, dataBitsOf, dataOctetsOf, packetsOf}
 use Rattle.plan.specs.RateLaws.{rows-most, rate-sizes}
 use Rattle.plan.specs.PlanLaws.{accepted, group-values}
 use Rattle.plan.specs.Places.{groupAt}
 use Rattle.plan.specs.PlaceLaws.{group-holds}
-use Rattle.plan.specs.States.{planIn, stateNumber}
+use Rattle.plan.specs.States.{stateNumber}
 use Rattle.packets.specs.Packets.{packed, packNumber, unpackNumber}
 use Rattle.packets.specs.PacketLaws.{sized-yes}
 use Rattle.slot.specs.Slots.{messageBits, sourceOctets}
@@ -110,11 +112,11 @@ room s packets h =
     record { place = a .0; long = eqb-true (length packets) _ (not-refused (eqb (length packets) (188 * packetsOf (rateAt s))) LENGTH (omega arith) (a .1)) }
 
 -- the part of the area for header and data octets that a rate takes
-pub source-within : (n r : ℕ) → n ≡ dataOctetsOf r → 22 + n ≤ length (replicate {A = ℕ} 5071 0)
-source-within n r e = omega (arith, length-replicate {A = ℕ} 5071 0, e, data-most r)
+pub source-within : (n r : ℕ) → n ≡ dataOctetsOf r → 22 + n ≤ length (replicate {A = ℕ} mostSource 0)
+source-within n r e = omega (arith, length-replicate {A = ℕ} mostSource 0, e, data-most r)
 
-pub source-taken : (n r : ℕ) → n ≡ dataOctetsOf r → length (take (22 + n - 0) (replicate {A = ℕ} 5071 0)) ≡ 22 + dataOctetsOf r
-source-taken n r e = length-take-le (22 + n - 0) (replicate {A = ℕ} 5071 0) (omega (arith, source-within n r e)) ∙ omega (arith, e)
+pub source-taken : (n r : ℕ) → n ≡ dataOctetsOf r → length (take (22 + n - 0) (replicate {A = ℕ} mostSource 0)) ≡ 22 + dataOctetsOf r
+source-taken n r e = length-take-le (22 + n - 0) (replicate {A = ℕ} mostSource 0) (omega (arith, source-within n r e)) ∙ omega (arith, e)
 
 -- header and data octets of a slot that was accepted
 pub slot-source : (s : FrameState) (t coded source : List ℕ) → readAnswer s t coded source .number ≡ 0

@@ -64,7 +64,7 @@ pub fn code_packets(
     }
     let rate = rate_at(state);
     let end = HEADER + plan::data_octets(rate);
-    let mut source = [0u8; 5071];
+    let mut source = [0u8; plan::MOST_SOURCE];
     code_by(
         state,
         rate,

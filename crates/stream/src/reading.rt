@@ -54,6 +54,6 @@ pub fn read_packets(state: FrameState, table: &[u16], coded: &[u8], packets: &mu
     }
     let rate = rate_at(state);
     let end = HEADER + plan::data_octets(rate);
-    let mut source = [0u8; 5071];
+    let mut source = [0u8; plan::MOST_SOURCE];
     read_by(state, rate, table, coded, &mut source[0..end], packets)
 }

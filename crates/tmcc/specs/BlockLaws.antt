@@ -32,11 +32,11 @@ message source l =
 
 pub length-blockOf : (t : List ℕ) (mask start : ℕ) (source : List ℕ) → length (blockOf t mask start source) ≡ blockOctets
 unfolding blockOf
-length-blockOf t mask start source = length-wordOf blockShape t mask start _ _
+length-blockOf t mask start source = length-wordOf blockShape t mask _ _ _
 
 pub blockOf-octets : (t : List ℕ) (mask start : ℕ) (source : List ℕ) → Octets (blockOf t mask start source)
 unfolding blockOf
-blockOf-octets t mask start source = wordOf-octets blockShape t mask start _ _
+blockOf-octets t mask start source = wordOf-octets blockShape t mask _ _ _
 
 pub length-sourceOf : (mask start : ℕ) (c : List ℕ) → length (sourceOf mask start c) ≡ sourceOctets
 unfolding sourceOf tailed

@@ -80,7 +80,7 @@ fn lent(
     octets: usize,
     tables: &mut [u16; 4080],
     source: &mut [u8; 608520],
-    frame: &mut [u8; 673200],
+    frame: &mut [u8; plan::FRAME_OCTETS],
 )
     requires { ⌜ octets ≤ 608520 ⌝ }
 {
@@ -93,7 +93,7 @@ fn of_plan(seed: u64, plan: Plan, octets: usize)
 {
     let mut tables = [0u16; 4080];
     let mut source = [0u8; 608520];
-    let mut frame = [0u8; 673200];
+    let mut frame = [0u8; plan::FRAME_OCTETS];
     lent(seed, plan, octets, &mut tables, &mut source, &mut frame);
 }
 

@@ -1,4 +1,5 @@
 -- `codeword::calls::lent_number`: each way out rewrites with the tests on the way to it.
+use lib.ListN.{length}
 use borrow.Author.Needs.{needs}
 use borrow.Author.Tests.{eq-eqb, ne-eqb}
 use Rattle.codeword.specs.Calls.{lentNumber}
@@ -11,7 +12,9 @@ returns c = rw (ne-eqb _ _ (c .if1 .taken))
 
 returns-2 : tie.Need-returns-2
 unfolding lentNumber
-returns-2 c = rw (eq-eqb _ _ (c .before .before .if1 .left), ne-eqb _ _ (c .if2 .taken))
+returns-2 c =
+    let a = c .before .before .before .before .before .before .args in
+    rw (eq-eqb _ _ (c .before .before .if1 .left), ne-eqb (length (a .coded .now)) (a .shape .octets) (c .if2 .taken))
 
 returns-3 : tie.Need-returns-3
 unfolding lentNumber

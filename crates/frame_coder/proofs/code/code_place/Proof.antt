@@ -7,10 +7,10 @@ use native.Mathlib.Omega.{arith}
 use borrow.Author.Needs.{needs}
 use lib.ListN.{getD}
 use Rattle.lists.specs.Parts.{part}
+use Rattle.plan.specs.Records.{planIn}
 use Rattle.plan.specs.declared.FrameState.{FrameState}
 use Rattle.plan.specs.declared.Answer.{Answer}
 use Rattle.plan.specs.Places.{carries, placeOf}
-use Rattle.plan.specs.States.{planIn}
 use Rattle.plan.specs.StateLaws.{ready-yes}
 use Rattle.slot.specs.Calls.{codeAnswer, codeArea}
 use Rattle.frame.specs.Steps.{codedAt, stateAfter}

@@ -3,8 +3,8 @@ use mathlib.Core.Path.{_≡_, sym, ap, _∙_}
 use mathlib.Core.List.{List}
 use Prim.Native.Nat.{ℕ}
 use borrow.Author.Needs.{needs}
+use Rattle.plan.specs.Records.{planIn}
 use Rattle.plan.specs.Places.{carries, placeOf}
-use Rattle.plan.specs.States.{planIn}
 use Rattle.plan.specs.StateLaws.{ready-yes}
 use Rattle.slot.specs.Calls.{readAnswer, readArea}
 use Rattle.frame.specs.StepLaws.{answer-dummy, read-dummy}

@@ -2,8 +2,9 @@
 use mathlib.Core.Path.{_≡_, sym, ap, _∙_}
 use borrow.Author.Needs.{needs}
 use borrow.Author.Tests.{ne-eqb}
+use Rattle.plan.specs.Records.{planIn}
 use Rattle.plan.specs.Places.{carries, placeOf}
-use Rattle.plan.specs.States.{planIn, passNumber}
+use Rattle.plan.specs.States.{passNumber}
 use Rattle.plan.proofs.state.pass_number.Statement.{statement}
 use Rattle.plan.proofs.state.pass_number.Tie as tie
 

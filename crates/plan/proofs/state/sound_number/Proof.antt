@@ -2,8 +2,9 @@
 use mathlib.Core.Path.{_≡_, sym, ap, _∙_}
 use borrow.Author.Needs.{needs}
 use borrow.Author.Tests.{eq-eqb, ne-eqb}
+use Rattle.plan.specs.Records.{planIn}
 use Rattle.plan.specs.Plans.{planNumber}
-use Rattle.plan.specs.States.{planIn, soundNumber}
+use Rattle.plan.specs.States.{soundNumber}
 use Rattle.plan.proofs.state.sound_number.Statement.{statement}
 use Rattle.plan.proofs.state.sound_number.Tie as tie
 

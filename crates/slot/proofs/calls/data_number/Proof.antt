@@ -2,8 +2,8 @@
 use mathlib.Core.Path.{_≡_, sym, ap, _∙_}
 use borrow.Author.Needs.{needs}
 use borrow.Author.Tests.{ne-eqb}
+use Rattle.plan.specs.Records.{planIn}
 use Rattle.plan.specs.Places.{carries, placeOf}
-use Rattle.plan.specs.States.{planIn}
 use Rattle.slot.specs.Calls.{dataNumber}
 use Rattle.slot.proofs.calls.data_number.Statement.{statement}
 use Rattle.slot.proofs.calls.data_number.Tie as tie
