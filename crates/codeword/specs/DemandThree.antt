@@ -4,7 +4,7 @@
 use mathlib.Core.Path.{_≡_, refl, sym, ap, ap₂, _∙_}
 use mathlib.Core.List.{List, _++_, append-assoc}
 use mathlib.Core.Logic.{_↔_}
-use Prim.Native.Nat.{ℕ, _+_, _*_}
+use Prim.Native.Nat.{ℕ, _+_}
 use native.Mathlib.Omega.{arith}
 use lib.ListN.{length}
 use Rattle.lists.specs.Runs.{Bits}
@@ -21,9 +21,9 @@ use Rattle.bch.specs.BchLaws.{length-bchBits, bchBits-bits, bchBits-equal, bchB
 use Rattle.ldpc.specs.Parity.{parityOf}
 use Rattle.ldpc.specs.ParityLaws.{parityOf-equal, parityOf-three}
 use Rattle.codeword.specs.declared.Shape.{Shape}
-use Rattle.codeword.specs.Words.{runBits, plain, sent, zeros, parityInput, withParity, wordOf}
+use Rattle.codeword.specs.Words.{plain, sent, zeros, parityInput, withParity, wordOf}
 use Rattle.codeword.specs.WordLaws.{Fits, Message, length-plain, zeros-bits, length-input, length-run, word-bits, word-run, word-parity}
-use Rattle.codeword.specs.Reading.{runIn, parityIn, takenOff, messageIn, bchIn, EvenTimes}
+use Rattle.codeword.specs.Reading.{parityIn, takenOff, messageIn, bchIn, EvenTimes}
 use Rattle.codeword.specs.RoundTrips.{coded-read}
 
 -- the BCH bits as sent: dispersed, with the register as it stands behind the message

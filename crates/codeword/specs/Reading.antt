@@ -1,8 +1,8 @@
 -- A received word, read (document 01, "Refusal list"): 8 and 9 in this order; the tail is handed out.
+use mathlib.Core.Path.{_≡_}
 use mathlib.Core.Bool.{Bool}
 use mathlib.Core.List.{List}
 use Prim.Native.Nat.{ℕ, _+_, _%_, _<_}
-use mathlib.Core.Path.{_≡_}
 use lib.Dec.{eqb}
 use lib.ListN.{take, drop}
 use Rattle.lists.specs.Choice.{pick, andThen}
@@ -56,6 +56,7 @@ bchRight F u = same (bchBits (messageIn F u)) (bchIn F u)
 unfoldable pub checksNumber : Shape → ℕ → List ℕ → ℕ
 checksNumber F wrong u = andThen (parityNumber F wrong) (pick (bchRight F u) 0 BCH)
 
+-- those of a received word: "and in reading 8, 9", "or 8, 9"
 unfoldable pub wordNumber : Shape → List ℕ → ℕ → ℕ → List ℕ → ℕ
 wordNumber F t mask r c = checksNumber F (wrongPosition F t c) (takenOff F mask r c)
 

@@ -22,6 +22,7 @@ plain m e = m ++ (bchBits m ++ e)
 unfoldable pub sent : Shape → ℕ → ℕ → List ℕ → List ℕ → List ℕ
 sent F mask r m e = dispersed (F .width) mask r (plain m e)
 
+-- "1,870 zeros", "11,330 zeros"; a slot has none
 unfoldable pub zeros : ℕ → List ℕ
 zeros n = replicate n 0
 

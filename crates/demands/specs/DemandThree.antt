@@ -3,7 +3,7 @@ use mathlib.Core.Path.{_≡_, refl, sym, ap, ap₂, _∙_}
 use mathlib.Core.Bool.{true}
 use mathlib.Core.List.{List, []}
 use mathlib.Core.Logic.{_↔_}
-use Prim.Native.Nat.{ℕ, _+_, _-_, _*_, _<_, _≤_}
+use Prim.Native.Nat.{ℕ, _+_, _-_, _<_, _≤_}
 use native.Mathlib.Omega.{arith}
 use borrow.Author.Tests.{eq-eqb}
 use lib.ListN.{length}
@@ -46,7 +46,7 @@ use Rattle.frame.specs.StepLaws.{coded-data}
 use Rattle.frame.specs.Frames.{rowsOfSlot, registerBefore, stateBefore, slotIn, sourceFrom, sourceIn, frameOf, frameNumber}
 use Rattle.frame.specs.FrameLaws.{at, sourceFrom-more, sourceFrom-mono, data-long, slot-at}
 use Rattle.frame.specs.CallLaws.{Lent, frame-lent, frame-yes}
-use Rattle.demands.specs.Statements.{Compared, SlotsCompared, FramesCompared, ComparedBlocks, BlocksCompared, SlotsAdded, FramesAdded, BlocksAdded}
+use Rattle.demands.specs.Statements.{Compared, SlotsCompared, FramesCompared, BlocksCompared, SlotsAdded, FramesAdded, BlocksAdded}
 
 -- the symbol call takes a slot under the modulation and the rate of its place
 symbols-taken : (m rate : ℕ) (c : List ℕ) → modulationOk m ≡ true → rateOk rate ≡ true → length c ≡ slotOctets → labelsNumber m rate (length c) (symbolsOf m) ≡ 0

@@ -7,7 +7,6 @@ use native.Mathlib.Omega.{arith}
 use borrow.Author.Tests.{eq-eqb}
 use lib.ListN.{length, getD}
 use Rattle.lists.specs.Choice.{pick}
-use Rattle.lists.specs.Count.{joined}
 use Rattle.lists.specs.CountLaws.{joined-same}
 use Rattle.lists.specs.Pieces.{pieces-all}
 use Rattle.lists.specs.Runs.{Octets}
@@ -17,23 +16,21 @@ use Rattle.plan.specs.declared.Plan.{Plan}
 use Rattle.plan.specs.declared.FrameState.{FrameState}
 use Rattle.plan.specs.Sizes.{slotOctets, frameOctets}
 use Rattle.plan.specs.Places.{carries}
-use Rattle.plan.specs.States.{passed}
 use Rattle.symbols.specs.CallLaws.{slot-labels-slot, labels-slot-labels, block-labels-block, labels-block-labels}
 use Rattle.slot.specs.Slots.{slotShape, slotOf}
 use Rattle.slot.specs.SlotLaws.{Source}
 use Rattle.slot.specs.Reading.{receivedNumber, sourceOf}
 use Rattle.codeword.specs.ReadingLaws.{Received}
-use Rattle.slot.specs.Calls.{rowsAt, codeAnswer, codeArea, readAnswer, readArea}
+use Rattle.slot.specs.Calls.{rowsAt}
 use Rattle.slot.specs.RoundTrips as slots
 use Rattle.tmcc.specs.RoundTrips as blocks
-use Rattle.frame.specs.Steps.{tableAt, codedAt, answerAt, readAt}
+use Rattle.frame.specs.Steps.{tableAt, answerAt, readAt}
 use Rattle.frame.specs.StepLaws.{coded-data, coded-dummy, answer-data, answer-dummy, read-dummy}
-use Rattle.frame.specs.Frames.{rowsOfSlot, registerBefore, stateBefore, slotIn, octetsOfSlot, sourceFrom, sourceIn, frameOf, answersOf, sourcesOf, frameNumber, readFrameNumber}
-use Rattle.frame.specs.FrameLaws.{At, at, sourceFrom-none, sourceFrom-more, data-long, length-slotIn, length-frameOf, length-sourcesOf, slot-at, answer-at, source-at}
+use Rattle.frame.specs.Frames.{rowsOfSlot, registerBefore, stateBefore, slotIn, octetsOfSlot, sourceFrom, sourceIn, frameOf, answersOf, sourcesOf}
+use Rattle.frame.specs.FrameLaws.{at, sourceFrom-none, sourceFrom-more, data-long, length-slotIn, length-frameOf, length-sourcesOf, slot-at, answer-at, source-at}
 use Rattle.frame.specs.CallLaws.{Lent, frame-lent, frame-yes, read-lent, read-yes}
-use Rattle.frame.specs.Walks.{codedTo, readTo}
 use Rattle.frame.specs.SlotBySlot.{coded-to, read-to, taken, code-answer, code-area, read-answer, read-area, pass-answer}
-use Rattle.demands.specs.Statements.{SlotCodedThenRead, SlotReadThenCoded, FrameBack, FrameCodedThenRead, FrameAgain, FrameReadThenCoded, CodedBySlots, FrameCodedBySlots, ReadBySlots, FrameReadBySlots, BlockCodedThenRead, BlockReadThenCoded, SlotLabelsBack, LabelsSlotBack, BlockLabelsBack, LabelsBlockBack}
+use Rattle.demands.specs.Statements.{SlotCodedThenRead, SlotReadThenCoded, FrameCodedThenRead, FrameReadThenCoded, FrameCodedBySlots, FrameReadBySlots, BlockCodedThenRead, BlockReadThenCoded, SlotLabelsBack, LabelsSlotBack, BlockLabelsBack, LabelsBlockBack}
 
 pub slot-coded-then-read : SlotCodedThenRead
 slot-coded-then-read = slots.code-then-read

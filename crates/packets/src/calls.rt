@@ -12,7 +12,7 @@ use crate::carry::syncs_ok;
 fn size_number(rate: u16, packets: usize, octets: usize) -> u8
     ensures { λ r. ⌜ r ≡ sizeNumber rate packets octets ⌝ }
 {
-    if !plan::known(rate, 11) {
+    if !plan::known(rate, plan::RATES) {
         return refusal::PLAN;
     }
     if packets != 188 * plan::packets(rate) {

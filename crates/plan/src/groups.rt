@@ -4,6 +4,8 @@ ghost use Prim.Native.Nat.{_+_, _-_, _≤_, _<_};
 ghost use Rattle.lists.specs.Count.{every};
 ghost use Rattle.plan.specs.Plans.{valuesOk, fallsAfter, slotsBefore, planNumber, dataSlotsOf};
 use crate::Plan;
+use crate::rates::MODULATIONS;
+use crate::rates::RATES;
 use crate::rates::known;
 
 fn values_ok(plan: Plan, g: usize) -> bool
@@ -11,8 +13,8 @@ fn values_ok(plan: Plan, g: usize) -> bool
     ensures { λ r. ⌜ r ≡ valuesOk plan g ⌝ }
 {
     let slots = plan.slots[g];
-    if known(plan.modulation[g], 5) {
-        if known(plan.rate[g], 11) {
+    if known(plan.modulation[g], MODULATIONS) {
+        if known(plan.rate[g], RATES) {
             if 1 <= slots {
                 return slots % 5 == 0;
             }

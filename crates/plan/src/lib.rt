@@ -10,6 +10,8 @@ mod state;
 pub use groups::data_slots;
 pub use groups::plan_number;
 pub use places::place_of;
+pub use rates::MODULATIONS;
+pub use rates::RATES;
 pub use rates::data_octets;
 pub use rates::known;
 pub use rates::packets;

@@ -4,7 +4,12 @@ ghost use mathlib.Core.Path.{_≡_};
 ghost use lib.Dec.{leb};
 ghost use Rattle.plan.specs.Rates.{rowsOf, stepOf, parityBitsOf, dataOctetsOf, packetsOf};
 
-// Whether x is a number from 1 to most: a rate where that is 11, a modulation where it is 5.
+// How many rates and modulations there are; they are numbered from 1.
+pub const RATES: u16 = 11;
+
+pub const MODULATIONS: u16 = 5;
+
+// Whether x is a number from 1 to most.
 pub fn known(x: u16, most: u16) -> bool
     ensures { λ r. ⌜ r ≡ (leb 1 x && leb x most) ⌝ }
 {
@@ -20,7 +25,7 @@ const ROWS: [usize; 12] = [0, 41, 49, 61, 73, 81, 89, 93, 97, 101, 105, 109];
 pub fn rows(rate: u16) -> usize
     ensures { λ r. ⌜ r ≡ rowsOf rate ⌝ }
 {
-    if 11 < rate {
+    if RATES < rate {
         return 0;
     }
     ROWS[lists::index(rate)]

@@ -22,7 +22,7 @@ pub fn table_length(rate: u16) -> usize
     ensures { λ r. ⌜ r ≡ lengthOf rate ⌝ }
     ensures { λ r. ⌜ r ≤ 510 ⌝ }
 {
-    if plan::known(rate, 11) {
+    if plan::known(rate, plan::RATES) {
         let k = lists::index(rate) - 1;
         let from = start(k);
         return start(k + 1) - from;
@@ -46,7 +46,7 @@ fn copy_from(tables: &[u16], rate: u16, area: &mut [u16]) -> u8
     requires { ⌜ now tables ≡ joined 11 tableAt ⌝ }
     ensures { λ r. ⌜ Answered (copyNumber rate (now (area .entry))) (tableOf rate) (now (area .entry)) r (now (area .exit)) ⌝ }
 {
-    if !plan::known(rate, 11) {
+    if !plan::known(rate, plan::RATES) {
         return refusal::PLAN;
     }
     let k = lists::index(rate) - 1;

@@ -1,11 +1,11 @@
 -- Demand 3 for slots at one place (document 01, "What demand 3 compares"): one row count, one parity table, one mask
 -- and one register. The clauses on BCH bits are a codeword's as they stand.
-use mathlib.Core.Path.{_≡_, sym, ap, ap₂, _∙_}
+use mathlib.Core.Path.{_≡_, sym, ap, _∙_}
 use mathlib.Core.List.{List, append-nil}
 use mathlib.Core.Logic.{_↔_}
 use Prim.Native.Nat.{ℕ, _*_, _%_, _<_}
 use lib.ListN.{length, take, drop}
-use Rattle.bits.specs.Octets.{bitsOf, octetsOf}
+use Rattle.bits.specs.Octets.{bitsOf}
 use Rattle.bits.specs.OctetLaws.{bits-octets}
 use Rattle.bits.specs.Sums.{added, addedThree, addedOctets}
 use Rattle.bits.specs.SumLaws.{length-three, three-bits}
@@ -16,7 +16,7 @@ use Rattle.plan.specs.Sizes.{slotOctets}
 use Rattle.codeword.specs.Words.{runBits, zeros, parityInput, wordOf}
 use Rattle.codeword.specs.Reading.{runIn}
 use Rattle.codeword.specs.DemandThree as words
-use Rattle.slot.specs.Slots.{sourceOctets, coveredBits, stuffBits, slotShape, slotOf}
+use Rattle.slot.specs.Slots.{sourceOctets, stuffBits, slotShape, slotOf}
 use Rattle.slot.specs.SlotLaws.{Source, sizes, fits, message}
 use Rattle.slot.specs.Reading.{covered, parity, sourceOf}
 use Rattle.slot.specs.RoundTrips.{coded-read}

@@ -25,7 +25,6 @@ use Rattle.plan.specs.Records.{planIn}
 use Rattle.plan.specs.RateLaws.{Rows}
 use Rattle.plan.specs.declared.Plan.{Plan}
 use Rattle.plan.specs.declared.FrameState.{FrameState}
-use Rattle.plan.specs.declared.Answer.{Answer}
 use Rattle.plan.specs.Plans.{groupsOk, valuesOk, fallsAfter, slotsBefore, planNumber}
 use Rattle.plan.specs.Places.{carries}
 use Rattle.plan.specs.Sizes.{slotOctets, slotWidth}

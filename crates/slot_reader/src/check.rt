@@ -8,7 +8,7 @@ ghost use Rattle.slot_reader.specs.Needs.{Checked};
 fn form_number(rate: u16, table: &[u16], coded: &[u8]) -> u8
     ensures { λ r. ⌜ r ≡ formNumber rate (now (table .entry)) (now (coded .entry)) ⌝ }
 {
-    if !plan::known(rate, 11) {
+    if !plan::known(rate, plan::RATES) {
         return refusal::PLAN;
     }
     if coded.len() != plan::SLOT_OCTETS {

@@ -1,5 +1,4 @@
 // A received slot, read by way of lent areas.
-ghost use mathlib.Core.Path.{_≡_};
 ghost use Rattle.refusal.specs.Answers.{Answered};
 ghost use Rattle.bits.specs.Octets.{octetsOf};
 ghost use Rattle.lists.specs.Choice.{pick};

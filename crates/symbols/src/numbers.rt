@@ -36,8 +36,8 @@ fn label_number(modulation: usize, labels: &[u8]) -> u8
 pub fn slot_number(modulation: u16, rate: u16, octets: usize, labels: usize) -> u8
     ensures { λ r. ⌜ r ≡ slotNumber modulation rate octets labels ⌝ }
 {
-    if plan::known(modulation, 5) {
-        if plan::known(rate, 11) {
+    if plan::known(modulation, plan::MODULATIONS) {
+        if plan::known(rate, plan::RATES) {
             return length_number(
                 plan::SLOT_OCTETS,
                 plan::SLOT_BITS / lists::index(modulation),

@@ -1,5 +1,5 @@
--- A TMCC block, coded and read (document 01, "TMCC block"), for a rate 3 parity table t, and the mask and the start of the register:
--- a codeword of the TMCC bits with no tail, and with zeros before and behind it in the parity input.
+-- A TMCC block, coded and read (document 01, "TMCC block"), for a rate 3 parity table t, and the mask and the start of the
+-- register: a codeword of the TMCC bits with no tail, and with zeros before and behind it in the parity input.
 use mathlib.Core.List.{List, [], _++_}
 use Prim.Native.Nat.{ℕ}
 use lib.ListN.{take, replicate}

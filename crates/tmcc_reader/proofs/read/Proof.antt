@@ -1,10 +1,9 @@
 -- `tmcc_reader::read`: a codeword read, whose message is taken where it is sound.
-use mathlib.Core.Path.{_≡_, sym, ap, _∙_}
+use mathlib.Core.Path.{sym, ap, _∙_}
 use mathlib.Core.List.{List}
 use Prim.Native.Nat.{ℕ}
 use native.Mathlib.Omega.{arith}
 use borrow.Author.Needs.{needs}
-use lib.ListN.{take}
 use lib.Seq.{length-take-le}
 use Rattle.refusal.specs.AnswerLaws.{refused, accepted}
 use Rattle.codeword.specs.Reading.{messageIn}

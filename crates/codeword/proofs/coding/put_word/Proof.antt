@@ -1,12 +1,11 @@
 -- `codeword::coding::put_word`: the bits dispersed, their parity behind them, collected to octets.
 use mathlib.Core.Path.{_≡_, sym, ap, ap₂, _∙_, subst}
-use mathlib.Core.List.{List}
-use Prim.Native.Nat.{ℕ, _-_, _≤_}
+use Prim.Native.Nat.{_-_, _≤_}
 use native.Mathlib.Omega.{arith}
 use borrow.Author.Needs.{needs}
 use lib.ListN.{length, take}
 use lib.Seq.{length-take-le, take-at}
-use borrow.Rule.Slice.PartMut.{putMid, postOf, same-len-mid}
+use borrow.Rule.Slice.PartMut.{postOf}
 use Rattle.lists.specs.Runs.{Bits}
 use Rattle.lists.specs.PartLaws.{take-lent}
 use Rattle.bits.specs.Octets.{octetsOf}

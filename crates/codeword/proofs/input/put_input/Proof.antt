@@ -1,13 +1,13 @@
 -- `codeword::put_input`: the zeros, the bits and the zeros are stored one behind the other.
 use mathlib.Core.Path.{_≡_, refl, ap, ap₂, _∙_}
 use mathlib.Core.List.{List, _++_}
-use Prim.Native.Nat.{ℕ, _+_, _-_, _≤_}
+use Prim.Native.Nat.{ℕ, _+_, _-_}
 use native.Mathlib.Omega.{arith}
 use borrow.Author.Needs.{needs}
 use lib.ListN.{length, replicate}
 use borrow.Rule.Slice.PartMut.{putMid, same-len-mid}
 use Rattle.lists.specs.PartLaws.{length-part, three-parts}
-use Rattle.codeword.specs.Words.{runBits, zeros, parityInput}
+use Rattle.codeword.specs.Words.{zeros, parityInput}
 use Rattle.codeword.specs.WordLaws.{length-zeros}
 use Rattle.codeword.proofs.input.put_input.Statement.{statement}
 use Rattle.codeword.proofs.input.put_input.Tie as tie

@@ -1,5 +1,5 @@
 -- `slot_coder::put_slot`: the codeword of header and data with the stuff bits behind the BCH bits.
-use mathlib.Core.Path.{_≡_, sym, ap, ap₂, _∙_}
+use mathlib.Core.Path.{_≡_, ap, _∙_}
 use mathlib.Core.List.{List}
 use Prim.Native.Nat.{ℕ, _*_, _-_, _≤_}
 use native.Mathlib.Omega.{arith}
@@ -7,10 +7,9 @@ use borrow.Author.Needs.{needs}
 use lib.ListN.{length, take}
 use lib.Seq.{length-take-le, take-at}
 use borrow.Rule.Slice.PartMut.{putMid, postOf, same-len-mid}
-use Rattle.bits.specs.Octets.{bitsOf, octetsOf}
-use Rattle.dispersal.specs.Dispersal.{dispersed}
+use Rattle.bits.specs.Octets.{bitsOf}
 use Rattle.codeword.specs.declared.Shape.{Shape}
-use Rattle.codeword.specs.Words.{runBits, plain, sent, withParity, wordOf, registerAfter as registerAfterWord}
+use Rattle.codeword.specs.Words.{runBits, plain, sent, wordOf, registerAfter as registerAfterWord}
 use Rattle.codeword.specs.WordLaws.{length-plain}
 use Rattle.slot.specs.Slots.{stuffBits, slotShape, slotOf}
 use Rattle.slot.specs.SlotLaws.{sizes, fits, message, register-after}

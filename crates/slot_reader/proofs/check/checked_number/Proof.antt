@@ -1,6 +1,5 @@
 -- `slot_reader::check::checked_number`: the lowest wrong position of the codeword that a slot is.
-use mathlib.Core.Path.{_≡_, ap, _∙_}
-use native.Mathlib.Omega.{arith}
+use mathlib.Core.Path.{ap, _∙_}
 use borrow.Author.Needs.{needs}
 use Rattle.codeword.specs.declared.Shape.{Shape}
 use Rattle.codeword.specs.Reading.{wrongPosition, parityNumber}

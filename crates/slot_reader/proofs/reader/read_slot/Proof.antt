@@ -1,5 +1,5 @@
 -- `slot_reader::reader::read_slot`: refused as the slot call is, or the received slot's number and octets.
-use mathlib.Core.Path.{_≡_, refl, sym, ap, subst, _∙_}
+use mathlib.Core.Path.{_≡_, sym, ap, subst, _∙_}
 use Prim.Native.Nat.{ℕ}
 use borrow.Author.Needs.{needs}
 use lib.ListN.{length-replicate}
