@@ -38,7 +38,7 @@ pub fn put_slot(
     let run = codeword::run_bits(shape);
     let end = 374 * rows;
     put_plain(rows, source, &mut bits[0..run]);
-    codeword::put_word(
+    word_coder::put_word(
         shape,
         table,
         mask,

@@ -35,7 +35,7 @@ fn checked_number(
     let shape = slot::shape(rows);
     let end = 374 * rows;
     let positions = 374 * (120 - rows);
-    let wrong = codeword::wrong_position(
+    let wrong = word_reader::wrong_position(
         shape,
         table,
         coded,
@@ -43,7 +43,7 @@ fn checked_number(
         &mut input[0..end],
         &mut sums[0..positions],
     );
-    codeword::parity_number(shape, wrong)
+    word_reader::parity_number(shape, wrong)
 }
 
 // Checks the parity of a slot of a rate, whatever its dispersal.

@@ -7,7 +7,7 @@ ghost use Rattle.codeword.specs.Reading.{messageIn};
 ghost use Rattle.slot.specs.Slots.{sourceOctets, slotShape};
 ghost use Rattle.slot.specs.Reading.{stuffRight};
 ghost use Rattle.slot_reader.specs.Needs.{Taken, Readable, ReadOf};
-use codeword::WordRead;
+use word_reader::WordRead;
 
 // Six ones, as a number.
 const STUFF_ONES: u64 = 63;
@@ -45,7 +45,7 @@ pub fn read(
     let run = codeword::run_bits(shape);
     let end = 374 * rows;
     let positions = 374 * (120 - rows);
-    let word = codeword::read_word(
+    let word = word_reader::read_word(
         shape,
         table,
         mask,

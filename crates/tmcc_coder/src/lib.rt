@@ -38,7 +38,7 @@ fn put_block(
     ensures { λ _. ⌜ now (block .exit) ≡ blockOf (now (table .entry)) mask start (now (source .entry)) ⌝ }
 {
     put_plain(source, &mut bits[0..RUN_BITS]);
-    let _ = codeword::put_word(tmcc::shape(), table, mask, start, bits, input, block);
+    let _ = word_coder::put_word(tmcc::shape(), table, mask, start, bits, input, block);
 }
 
 // The refusal of a call that codes a block, or 0.

@@ -34,7 +34,7 @@ fn read(
     requires { ⌜ Readable start (now table) (now block) (now bits) (now input) (now sums) (now source) ⌝ }
     ensures { λ r. ⌜ Answered (wordNumber blockShape (now (table .entry)) mask start (now (block .entry))) (sourceOf mask start (now (block .entry))) (now (source .entry)) r (now (source .exit)) ⌝ }
 {
-    let word = codeword::read_word(tmcc::shape(), table, mask, start, block, bits, input, sums);
+    let word = word_reader::read_word(tmcc::shape(), table, mask, start, block, bits, input, sums);
     if word.number == 0 {
         put_source(&mut bits[0..RUN_BITS], source);
     }

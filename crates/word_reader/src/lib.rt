@@ -1,13 +1,16 @@
 // Reading a received word: its parity, its dispersal, its BCH bits.
 ghost use mathlib.Core.Path.{_≡_};
 ghost use Rattle.bits.specs.Octets.{bitsOf};
 ghost use Rattle.codeword.specs.Reading.{wrongPosition, parityNumber, checksNumber};
 ghost use Rattle.codeword.specs.WordLaws.{Fits};
 ghost use Rattle.codeword.specs.Needs.{Checked, Received, Run, ReadOf};
-use crate::Shape;
-use crate::WordRead;
-use crate::input::put_input;
-use crate::sizes::run_bits;
+use codeword::Shape;
+
+// A received word, read: the refusal of its parity or BCH bits, or 0, and the register after it.
+pub struct WordRead {
+    pub number: u8,
+    pub register: u32,
+}
 
 // The lowest position at which the parity of a received word is wrong, or M where there is none. Its bits are left in
 // their area.
@@ -23,9 +26,9 @@ pub fn wrong_position(
     ensures { λ r. ⌜ r ≡ wrongPosition shape (now (table .entry)) (now (coded .entry)) ⌝ }
     ensures { λ _. ⌜ now (bits .exit) ≡ bitsOf (now (coded .entry)) ⌝ }
 {
-    let run = run_bits(shape);
+    let run = codeword::run_bits(shape);
     bits::expand(coded, bits);
-    put_input(shape, &bits[0..run], input);
+    codeword::put_input(shape, &bits[0..run], input);
     ldpc::lowest_wrong(shape.rows, table, input, &bits[run..], sums)
 }
 
@@ -73,7 +76,7 @@ pub fn read_word(
     requires { ⌜ Received shape register (now table) (now coded) (now bits) (now input) (now sums) ⌝ }
     ensures { λ r. ⌜ ReadOf shape (now (table .entry)) mask register (now (coded .entry)) (r .number) (r .register) (now (bits .exit)) ⌝ }
 {
-    let run = run_bits(shape);
+    let run = codeword::run_bits(shape);
     let wrong = wrong_position(shape, table, coded, bits, input, sums);
     let next = dispersal::disperse(shape.width, mask, register, &mut bits[0..run]);
     let number = checks_number(shape, wrong, &bits[0..run]);

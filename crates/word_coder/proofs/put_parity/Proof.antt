@@ -1,4 +1,4 @@
--- `codeword::coding::put_parity`: the parity fills the area behind the bits.
+-- `word_coder::put_parity`: the parity fills the area behind the bits.
 use mathlib.Core.Path.{_≡_, ap, ap₂, _∙_}
 use mathlib.Core.List.{List, _++_}
 use Prim.Native.Nat.{ℕ, _+_, _-_}
@@ -8,9 +8,9 @@ use lib.ListN.{length, take}
 use Rattle.lists.specs.PartLaws.{take-lent, put-lent, put-end}
 use Rattle.ldpc.specs.Parity.{parityOf}
 use Rattle.ldpc.specs.ParityLaws.{length-parityOf}
 use Rattle.codeword.specs.Words.{runBits, parityInput, withParity}
-use Rattle.codeword.proofs.coding.put_parity.Statement.{statement}
-use Rattle.codeword.proofs.coding.put_parity.Tie as tie
+use Rattle.word_coder.proofs.put_parity.Statement.{statement}
+use Rattle.word_coder.proofs.put_parity.Tie as tie
 
 returns : tie.Need-returns
 unfolding withParity

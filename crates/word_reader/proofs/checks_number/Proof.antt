@@ -1,4 +1,4 @@
--- `codeword::reading::checks_number`: each way out rewrites with the tests on the way to it.
+-- `word_reader::checks_number`: each way out rewrites with the tests on the way to it.
 use mathlib.Core.Path.{_≡_, refl, _∙_}
 use Prim.Native.Nat.{_+_, _-_}
 use native.Mathlib.Omega.{arith}
@@ -6,9 +6,9 @@ use borrow.Author.Needs.{needs}
 use borrow.Author.Tests.{ne-eqb}
 use Rattle.lists.specs.PartLaws.{length-part, take-lent}
 use Rattle.lists.specs.RunLaws.{below-take}
 use Rattle.codeword.specs.Reading.{bchRight, checksNumber}
-use Rattle.codeword.proofs.reading.checks_number.Statement.{statement}
-use Rattle.codeword.proofs.reading.checks_number.Tie as tie
+use Rattle.word_reader.proofs.checks_number.Statement.{statement}
+use Rattle.word_reader.proofs.checks_number.Tie as tie
 
 -- what the test of the BCH bits says
 tested : (c : tie.After-right) → let a = c .before .before .before .before .before .before .args in c .right .result ≡ bchRight (a .shape) (a .run .now)

@@ -1,4 +1,4 @@
--- `codeword::reading::wrong_position`: the parity input made of the bits, and the parity behind them, are the definition's.
+-- `word_reader::wrong_position`: the parity input made of the bits, and the parity behind them, are the definition's.
 use mathlib.Core.Path.{_≡_, ap, ap₂, _∙_}
 use mathlib.Core.List.{List}
 use Prim.Native.Nat.{ℕ}
@@ -7,10 +7,10 @@ use borrow.Author.Needs.{needs}
 use lib.ListN.{length, take, drop}
 use Rattle.lists.specs.PartLaws.{length-part, take-lent, part-rest}
 use Rattle.ldpc.specs.Parity.{lowestWrong}
 use Rattle.codeword.specs.Words.{runBits, parityInput}
 use Rattle.codeword.specs.Reading.{wrongPosition}
-use Rattle.codeword.proofs.reading.wrong_position.Statement.{statement}
-use Rattle.codeword.proofs.reading.wrong_position.Tie as tie
+use Rattle.word_reader.proofs.wrong_position.Statement.{statement}
+use Rattle.word_reader.proofs.wrong_position.Tie as tie
 
 lowest-wrong-requires : tie.Need-lowest-wrong-requires
 lowest-wrong-requires c κs =

@@ -1,4 +1,4 @@
--- `codeword::reading::read_word`: the parity is checked before dispersal is taken off the bits in front of it.
+-- `word_reader::read_word`: the parity is checked before dispersal is taken off the bits in front of it.
 use mathlib.Core.Path.{_≡_, ap, ap₂, _∙_}
 use mathlib.Core.List.{List}
 use Prim.Native.Nat.{ℕ, _-_, _≤_}
@@ -11,11 +11,11 @@ use Rattle.lists.specs.PartLaws.{take-lent}
 use Rattle.dispersal.specs.Register.{after}
 use Rattle.dispersal.specs.Dispersal.{dispersed}
 use Rattle.dispersal.specs.DispersalLaws.{length-dispersed}
 use Rattle.codeword.specs.Words.{runBits, registerAfter}
 use Rattle.codeword.specs.Reading.{takenOff, checksNumber, wordNumber}
 use Rattle.codeword.specs.ReadingLaws.{takenOff-bits}
-use Rattle.codeword.proofs.reading.read_word.Statement.{statement}
-use Rattle.codeword.proofs.reading.read_word.Tie as tie
+use Rattle.word_reader.proofs.read_word.Statement.{statement}
+use Rattle.word_reader.proofs.read_word.Tie as tie
 
 -- the bits before the parity have room
 room : (c : tie.After-disperse) → let w = c .before .before .before .before .before .before .before .before in w .before .before .before .before .run-bits .result ≤ length (w .wrong-position .last .1 .1 .1 .0)

@@ -3,19 +3,17 @@ ghost use mathlib.Core.Path.{_≡_};
 ghost use lib.ListN.{take};
 ghost use Rattle.bits.specs.Octets.{octetsOf};
 ghost use Rattle.dispersal.specs.Dispersal.{dispersed};
 ghost use Rattle.codeword.specs.Words.{runBits, withParity, registerAfter};
 ghost use Rattle.codeword.specs.Needs.{Room, Coding};
-use crate::Shape;
-use crate::input::put_input;
-use crate::sizes::run_bits;
+use codeword::Shape;
 
 // The parity of the bits that stand before it, put behind them.
 fn put_parity(shape: Shape, table: &[u16], bits: &mut [u8], input: &mut [u8])
     requires { ⌜ Room shape (now table) (now bits) (now input) ⌝ }
     ensures { λ _. ⌜ now (bits .exit) ≡ withParity shape (now (table .entry)) (take (runBits shape) (now (bits .entry))) ⌝ }
 {
-    let run = run_bits(shape);
-    put_input(shape, &bits[0..run], input);
+    let run = codeword::run_bits(shape);
+    codeword::put_input(shape, &bits[0..run], input);
     ldpc::parity(shape.rows, table, input, &mut bits[run..]);
 }
 
@@ -33,7 +31,7 @@ pub fn put_word(
     ensures { λ r. ⌜ r ≡ registerAfter shape mask register ⌝ }
     ensures { λ _. ⌜ now (coded .exit) ≡ octetsOf (shape .octets) (withParity shape (now (table .entry)) (dispersed (shape .width) mask register (take (runBits shape) (now (bits .entry))))) ⌝ }
 {
-    let run = run_bits(shape);
+    let run = codeword::run_bits(shape);
     let next = dispersal::disperse(shape.width, mask, register, &mut bits[0..run]);
     put_parity(shape, table, bits, input);
     bits::collect(bits, coded);

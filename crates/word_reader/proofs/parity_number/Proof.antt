@@ -1,11 +1,11 @@
--- `codeword::reading::parity_number`: the two answers are those of the test.
+-- `word_reader::parity_number`: the two answers are those of the test.
 use mathlib.Core.Path.{_≡_}
 use borrow.Author.Needs.{needs}
 use borrow.Author.Tests.{eq-eqb, ne-eqb}
 use Rattle.ldpc.specs.Tables.{positions}
 use Rattle.codeword.specs.Reading.{parityNumber}
-use Rattle.codeword.proofs.reading.parity_number.Statement.{statement}
-use Rattle.codeword.proofs.reading.parity_number.Tie as tie
+use Rattle.word_reader.proofs.parity_number.Statement.{statement}
+use Rattle.word_reader.proofs.parity_number.Tie as tie
 
 returns : tie.Need-returns
 unfolding parityNumber

@@ -1,4 +1,4 @@
--- `codeword::coding::put_word`: the bits dispersed, their parity behind them, collected to octets.
+-- `word_coder::put_word`: the bits dispersed, their parity behind them, collected to octets.
 use mathlib.Core.Path.{_≡_, sym, ap, ap₂, _∙_, subst}
 use Prim.Native.Nat.{_-_, _≤_}
 use native.Mathlib.Omega.{arith}
@@ -12,10 +12,10 @@ use Rattle.bits.specs.Octets.{octetsOf}
 use Rattle.dispersal.specs.Register.{after}
 use Rattle.dispersal.specs.Dispersal.{dispersed}
 use Rattle.dispersal.specs.DispersalLaws.{length-dispersed, dispersed-bits}
 use Rattle.codeword.specs.Words.{runBits, withParity, registerAfter}
 use Rattle.codeword.specs.WordLaws.{length-withParity, withParity-bits}
-use Rattle.codeword.proofs.coding.put_word.Statement.{statement}
-use Rattle.codeword.proofs.coding.put_word.Tie as tie
+use Rattle.word_coder.proofs.put_word.Statement.{statement}
+use Rattle.word_coder.proofs.put_word.Tie as tie
 
 -- the bits before the parity have room
 room : (c : tie.After-disperse) → let a = c .before .before .before .before .before .before .before .args in runBits (a .shape) ≤ length (a .bits .now)
