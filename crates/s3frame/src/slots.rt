@@ -68,5 +68,5 @@ pub extern "C" fn s3_read_slot(
 pub extern "C" fn s3_check_parity(rate: u32, table: &[u16], coded: &[u8]) -> u32
     ensures { λ r. ⌜ r ≡ checkNumber rate (now (table .entry)) (now (coded .entry)) ⌝ }
 {
-    word(slot_reader::check_parity(narrow(rate), table, coded))
+    word(slot_check::check_parity(narrow(rate), table, coded))
 }

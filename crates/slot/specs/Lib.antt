@@ -6,3 +6,4 @@ pub mod Calls
 pub mod CallLaws
 pub mod RoundTrips
 pub mod DemandThree
+pub mod Areas

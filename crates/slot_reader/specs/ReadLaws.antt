@@ -1,23 +1,15 @@
--- Laws of the calls: reading's answer and area where it is refused before the slot is looked at, and where not; what a
--- number 0 says of what the lone check is lent.
+-- Laws of reading a slot: its answer and its area where the call is refused before the slot is looked at, and where not.
 use mathlib.Core.Path.{_≡_, ap₂}
-use mathlib.Core.Bool.{true}
 use mathlib.Core.List.{List}
 use Prim.Native.Nat.{ℕ}
-use native.Mathlib.Omega.{arith}
 use lib.Dec.{eqb}
-use lib.ListN.{length}
-use borrow.Author.Tests.{eq-eqb, ne-eqb, eqb-true}
+use borrow.Author.Tests.{eq-eqb, ne-eqb}
 use Rattle.lists.specs.Choice.{pick}
-use Rattle.lists.specs.ChoiceLaws.{then-first, then-next, then-zero, not-refused}
-use Rattle.refusal.specs.Numbers.{PLAN, LENGTH, TABLE}
-use Rattle.ldpc.specs.Tables.{tableOk}
-use Rattle.plan.specs.Rates.{rateOk, rowsOf}
-use Rattle.plan.specs.Sizes.{slotOctets}
+use Rattle.lists.specs.ChoiceLaws.{then-first, then-next}
 use Rattle.plan.specs.declared.FrameState.{FrameState}
 use Rattle.plan.specs.declared.Answer.{Answer}
 use Rattle.slot.specs.Reading.{receivedNumber, sourceOf}
-use Rattle.slot.specs.Calls.{rowsAt, slotNumber, nextState, readNumber, readAnswer, readArea, formNumber}
+use Rattle.slot.specs.Calls.{rowsAt, slotNumber, nextState, readNumber, readAnswer, readArea}
 
 -- an answer is its number and its state
 pub answer≡ : {m n : ℕ} {s t : FrameState} → m ≡ n → s ≡ t → _≡_ {A = Answer} (record { number = m; state = s }) (record { number = n; state = t })
@@ -51,20 +43,3 @@ module _ (s : FrameState) (t c source : List ℕ) where
     pub readArea-looked : readArea s t c source ≡ pick (eqb (receivedNumber (rowsAt s) t (s .mask) (s .register) c) 0) (sourceOf (rowsAt s) (s .mask) (s .register) c) source
     unfolding readArea
     readArea-looked = rw readNumber-looked
-
--- what a number 0 says of the rate, the slot and the table
-pub record Formed (rate : ℕ) (t c : List ℕ) : Type 0 where
-  pub rate-known : rateOk rate ≡ true
-  pub whole : length c ≡ slotOctets
-  pub table : tableOk (rowsOf rate) t ≡ true
-
-pub formed : (rate : ℕ) (t c : List ℕ) → formNumber rate t c ≡ 0 → Formed rate t c
-unfolding formNumber
-formed rate t c h =
-    let a = then-zero (pick (rateOk rate) 0 PLAN) _ h in
-    let b = then-zero (pick (eqb (length c) slotOctets) 0 LENGTH) _ (a .1) in
-    record {
-      rate-known = not-refused (rateOk rate) PLAN (omega arith) (a .0);
-      whole = eqb-true (length c) slotOctets (not-refused (eqb (length c) slotOctets) LENGTH (omega arith) (b .0));
-      table = not-refused (tableOk (rowsOf rate) t) TABLE (omega arith) (b .1);
-    }

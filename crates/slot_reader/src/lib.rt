@@ -1,7 +1,5 @@
-// Reading a slot, and the lone parity check.
-mod check;
+// Reading a slot.
 mod reader;
 mod received;
 
-pub use check::check_parity;
 pub use reader::read_slot;

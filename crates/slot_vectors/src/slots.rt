@@ -18,7 +18,7 @@ fn read_line(
 ) {
     samples::fill(0, found);
     let answer = slot_reader::read_slot(state, table, coded, found);
-    let check = slot_reader::check_parity(rate, table, coded);
+    let check = slot_check::check_parity(rate, table, coded);
     lines::read(rate, state.slot, damage, more, answer, check, found);
 }
 

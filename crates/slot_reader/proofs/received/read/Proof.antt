@@ -2,6 +2,8 @@
 use mathlib.Core.Path.{_≡_, sym, ap, _∙_}
 use Prim.Native.Nat.{ℕ, _-_, _≤_}
 use native.Mathlib.Omega.{arith}
+use mathlib.Core.List.{List}
+use lib.Dec.{eqb}
 use lib.ListN.{length, take}
 use lib.Seq.{length-take-le}
 use borrow.Author.Needs.{needs}
@@ -10,14 +12,15 @@ use Rattle.lists.specs.Choice.{pick}
 use Rattle.lists.specs.ChoiceLaws.{then-first, then-next}
 use Rattle.lists.specs.PartLaws.{take-lent}
 use Rattle.refusal.specs.Numbers.{STUFF}
+use Rattle.bits.specs.Octets.{octetsOf}
 use Rattle.codeword.specs.Words.{runBits}
-use Rattle.codeword.specs.Reading.{takenOff, wordNumber}
+use Rattle.codeword.specs.Reading.{takenOff, messageIn, wordNumber}
 use Rattle.codeword.specs.ReadingLaws.{takenOff-bits}
 use Rattle.codeword.specs.Needs.{ReadOf as ReadWord}
-use Rattle.slot.specs.Slots.{slotShape}
+use Rattle.slot.specs.Slots.{sourceOctets, slotShape}
 use Rattle.slot.specs.SlotLaws.{sizes, fits, register-after}
 use Rattle.slot.specs.Reading.{stuffRight, receivedNumber, sourceOf}
-use Rattle.slot_reader.proofs.Areas.{areas}
+use Rattle.slot.specs.Areas.{areas}
 use Rattle.slot_reader.proofs.received.read.Statement.{statement}
 use Rattle.slot_reader.proofs.received.read.Tie as tie
 
@@ -100,9 +103,11 @@ returns-2 c =
     let z = then-next (wordNumber F (a .table .now) (a .mask) (a .register) (a .coded .now)) (pick (stuffRight (a .rows) (takenOff F (a .mask) (a .register) (a .coded .now))) 0 STUFF) (sym (o .number) ∙ e .if1 .left) in
     let v = t .take-source .ensures in
     record {
-      number = rw (z, ← lent w) (v .number);
+      number = v .number ∙ ap (λ (u : List ℕ). pick (stuffRight (a .rows) u) 0 STUFF) (lent w) ∙ sym z;
       register = o .register ∙ register-after (a .rows) (a .mask) (a .register) (s .pre .checked .rate);
-      area = rw (z, ← lent w) (v .area);
+      area = v .area
+          ∙ ap (λ (u : List ℕ). pick (eqb (pick (stuffRight (a .rows) u) 0 STUFF) 0) (octetsOf (sourceOctets (a .rows)) (messageIn F u)) (a .source .now)) (lent w)
+          ∙ ap (λ (n : ℕ). pick (eqb n 0) (sourceOf (a .rows) (a .mask) (a .register) (a .coded .now)) (a .source .now)) (sym z);
     }
 
 pub read-spec : {M : Type 1} → statement M

@@ -1,13 +1,13 @@
--- `slot_reader::check::checked_number`: the lowest wrong position of the codeword that a slot is.
+-- `slot_check::checked_number`: the lowest wrong position of the codeword that a slot is.
 use mathlib.Core.Path.{ap, _∙_}
 use borrow.Author.Needs.{needs}
 use Rattle.codeword.specs.declared.Shape.{Shape}
 use Rattle.codeword.specs.Reading.{wrongPosition, parityNumber}
 use Rattle.slot.specs.SlotLaws.{fits}
 use Rattle.slot.specs.Reading.{checkedNumber}
-use Rattle.slot_reader.proofs.Areas.{areas}
-use Rattle.slot_reader.proofs.check.checked_number.Statement.{statement}
-use Rattle.slot_reader.proofs.check.checked_number.Tie as tie
+use Rattle.slot.specs.Areas.{areas}
+use Rattle.slot_check.proofs.checked_number.Statement.{statement}
+use Rattle.slot_check.proofs.checked_number.Tie as tie
 
 wrong-position-requires : tie.Need-wrong-position-requires
 wrong-position-requires c κs =

@@ -2,7 +2,7 @@
 ghost use mathlib.Core.Path.{_≡_};
 ghost use Rattle.slot.specs.Reading.{checkedNumber};
 ghost use Rattle.slot.specs.Calls.{formNumber, checkNumber};
-ghost use Rattle.slot_reader.specs.Needs.{Checked};
+ghost use Rattle.slot.specs.Areas.{Checked};
 
 // The refusal of the rate, of the slot's length or of the table, or 0.
 fn form_number(rate: u16, table: &[u16], coded: &[u8]) -> u8

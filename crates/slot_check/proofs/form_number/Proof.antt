@@ -1,4 +1,4 @@
--- `slot_reader::check::form_number`: each way out rewrites with the tests on the way to it.
+-- `slot_check::form_number`: each way out rewrites with the tests on the way to it.
 use mathlib.Core.Path.{_≡_, sym, ap, _∙_}
 use mathlib.Core.Bool.{true}
 use Prim.Native.Nat.{ℕ}
@@ -9,8 +9,8 @@ use Rattle.ldpc.specs.Tables.{tableOk}
 use Rattle.plan.specs.Rates.{rateOk, rowsOf}
 use Rattle.plan.specs.RateLaws.{rate-rows}
 use Rattle.slot.specs.Calls.{formNumber}
-use Rattle.slot_reader.proofs.check.form_number.Statement.{statement}
-use Rattle.slot_reader.proofs.check.form_number.Tie as tie
+use Rattle.slot_check.proofs.form_number.Statement.{statement}
+use Rattle.slot_check.proofs.form_number.Tie as tie
 
 -- the test of the rate is the definition's
 tested : (c : tie.After-known) → rateOk (c .before .before .before .args .rate) ≡ c .known .result

@@ -1,4 +1,4 @@
--- `slot_reader::check::check_parity`: the form's number decides, then the parity's.
+-- `slot_check::check_parity`: the form's number decides, then the parity's.
 use mathlib.Core.Path.{_≡_, sym, ap, _∙_}
 use Prim.Native.Nat.{ℕ}
 use borrow.Author.Needs.{needs}
@@ -7,9 +7,9 @@ use Rattle.lists.specs.ChoiceLaws.{then-first, then-next}
 use Rattle.plan.specs.RateLaws.{rate-rows}
 use Rattle.slot.specs.Reading.{checkedNumber}
 use Rattle.slot.specs.Calls.{formNumber, checkNumber}
-use Rattle.slot_reader.specs.ReadLaws.{formed}
-use Rattle.slot_reader.proofs.check.check_parity.Statement.{statement}
-use Rattle.slot_reader.proofs.check.check_parity.Tie as tie
+use Rattle.slot_check.specs.FormLaws.{formed}
+use Rattle.slot_check.proofs.check_parity.Statement.{statement}
+use Rattle.slot_check.proofs.check_parity.Tie as tie
 
 returns : tie.Need-returns
 unfolding checkNumber

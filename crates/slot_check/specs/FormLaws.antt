@@ -1,0 +1,33 @@
+-- What a number 0 says of what the lone check is lent.
+use mathlib.Core.Path.{_≡_}
+use mathlib.Core.Bool.{true}
+use mathlib.Core.List.{List}
+use Prim.Native.Nat.{ℕ}
+use native.Mathlib.Omega.{arith}
+use lib.Dec.{eqb}
+use lib.ListN.{length}
+use borrow.Author.Tests.{eqb-true}
+use Rattle.lists.specs.Choice.{pick}
+use Rattle.lists.specs.ChoiceLaws.{then-zero, not-refused}
+use Rattle.refusal.specs.Numbers.{PLAN, LENGTH, TABLE}
+use Rattle.ldpc.specs.Tables.{tableOk}
+use Rattle.plan.specs.Rates.{rateOk, rowsOf}
+use Rattle.plan.specs.Sizes.{slotOctets}
+use Rattle.slot.specs.Calls.{formNumber}
+
+-- what a number 0 says of the rate, the slot and the table
+pub record Formed (rate : ℕ) (t c : List ℕ) : Type 0 where
+  pub rate-known : rateOk rate ≡ true
+  pub whole : length c ≡ slotOctets
+  pub table : tableOk (rowsOf rate) t ≡ true
+
+pub formed : (rate : ℕ) (t c : List ℕ) → formNumber rate t c ≡ 0 → Formed rate t c
+unfolding formNumber
+formed rate t c h =
+    let a = then-zero (pick (rateOk rate) 0 PLAN) _ h in
+    let b = then-zero (pick (eqb (length c) slotOctets) 0 LENGTH) _ (a .1) in
+    record {
+      rate-known = not-refused (rateOk rate) PLAN (omega arith) (a .0);
+      whole = eqb-true (length c) slotOctets (not-refused (eqb (length c) slotOctets) LENGTH (omega arith) (b .0));
+      table = not-refused (tableOk (rowsOf rate) t) TABLE (omega arith) (b .1);
+    }
