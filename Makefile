@@ -21,6 +21,6 @@ soak: lib
 	S3_SOAK=20 tests/rust/run
 
 bench:
-	rt check slot_bench | grep '^rt: .*bench'
+	rt check test_bench | grep '^rt: .*bench'
 	cargo build --quiet --release --offline --locked --manifest-path tests/reference/Cargo.toml --target-dir target/reference
 	tools/bench

@@ -1,4 +1,4 @@
-//! The work of the program `slot_bench`, by the loops of document 002 or by straight loops over one octet a bit.
+//! The work of the program `test_bench`, by the loops of document 002 or by straight loops over one octet a bit.
 use crate::plan::SLOTS;
 use crate::quick::{Areas, Loops};
 use crate::samples::{digest, octets, MASK, START};

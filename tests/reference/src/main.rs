@@ -1,8 +1,8 @@
 //! The second implementation as a program that writes lines to compare.
 //!
-//!     reference vectors             the lines that the program slot_vectors must write
+//!     reference vectors             the lines that the program test_slots must write
 //!     reference frames              lines of whole frames and TMCC blocks, coded, read back and read when damaged
-//!     reference bench COUNTS RATES  the work of the program slot_bench: slots coded and read, frames coded and read, at
+//!     reference bench COUNTS RATES  the work of the program test_bench: slots coded and read, frames coded and read, at
 //!                                   rates 1, 7 and 11 where none is named
 //!     reference stream PLAN MASK START PACKETS FRAMES [HEADERS]
 //!                                   the frames of a file of packets, as the program framer writes them

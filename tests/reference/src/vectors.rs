@@ -1,4 +1,4 @@
-//! The lines that the program `slot_vectors` must write: for each rate the first two slots of a frame, coded, read back,
+//! The lines that the program `test_slots` must write: for each rate the first two slots of a frame, coded, read back,
 //! and read with one bit damaged, the parity as sent or made anew for the damaged bits.
 use crate::ldpc;
 use crate::samples::{digest, octets, MASK, START};

@@ -1,0 +1,46 @@
+// The lines that are written.
+use libc::STDOUT_FILENO;
+use plan::Answer;
+
+fn field(name: &[u8], value: u64) {
+    io::write_all(STDOUT_FILENO, name);
+    io::print_decimal(STDOUT_FILENO, value);
+}
+
+// Which slot the line is about.
+fn title(rate: u16, slot: u16) {
+    field(b"rate ", rate as u64);
+    field(b" slot ", slot as u64);
+}
+
+// The register after the slot, and the digest of the octets that the call wrote or left.
+fn end(answer: Answer, octets: &[u8]) {
+    let state = answer.state;
+    field(b" register ", state.register as u64);
+    field(b" digest ", test_samples::digest(octets));
+    io::write_all(STDOUT_FILENO, b"\n");
+}
+
+pub fn coded(rate: u16, slot: u16, answer: Answer, octets: &[u8]) {
+    title(rate, slot);
+    field(b" coded ", answer.number as u64);
+    end(answer, octets);
+}
+
+// What was read: the damage in two parts, the reader's number and that of the lone parity check.
+pub fn read(
+    rate: u16,
+    slot: u16,
+    damage: &[u8],
+    more: &[u8],
+    answer: Answer,
+    check: u8,
+    octets: &[u8],
+) {
+    title(rate, slot);
+    io::write_all(STDOUT_FILENO, damage);
+    io::write_all(STDOUT_FILENO, more);
+    field(b" read ", answer.number as u64);
+    field(b" check ", check as u64);
+    end(answer, octets);
+}
