@@ -18,7 +18,14 @@ fn code_frames(rate: u16, table: &[u16], count: u64, source: &mut [u8], frame: &
     let mut n: u64 = 0;
     while n < count {
         carry(frame, source);
-        frame_coder::code_frame(test_samples::plan_of(rate), MASK, START, table, source, frame);
+        frame_coder::code_frame(
+            test_samples::plan_of(rate),
+            MASK,
+            START,
+            table,
+            source,
+            frame,
+        );
         n += 1;
     }
 }

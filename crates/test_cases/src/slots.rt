@@ -51,7 +51,13 @@ fn read(
 }
 
 fn read_back(table: &[u16], source: &[u8], first: &[u8], second: &[u8], found: &mut [u8]) {
-    let next = read(b"slot 1 read ", test_samples::opened(5), table, first, found);
+    let next = read(
+        b"slot 1 read ",
+        test_samples::opened(5),
+        table,
+        first,
+        found,
+    );
     line(b"its octets and those coded the same ", same(found, source));
     read(b"slot 2 read ", next, table, second, found);
 }

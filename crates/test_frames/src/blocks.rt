@@ -25,14 +25,24 @@ fn code_line(words: &[u8], tail: u8, table: &[u16], source: &mut [u8], block: &m
     put_source(tail, source);
     test_samples::fill(7, block);
     let number = tmcc_coder::code_block(MASK, START, table, source, block);
-    lines::end(words, number as u64, b" digest ", test_samples::digest(block));
+    lines::end(
+        words,
+        number as u64,
+        b" digest ",
+        test_samples::digest(block),
+    );
 }
 
 // Reads a block into an area that is filled before.
 fn read_line(words: &[u8], table: &[u16], block: &[u8], source: &mut [u8]) {
     test_samples::fill(9, source);
     let number = tmcc_reader::read_block(MASK, START, table, block, source);
-    lines::end(words, number as u64, b" digest ", test_samples::digest(source));
+    lines::end(
+        words,
+        number as u64,
+        b" digest ",
+        test_samples::digest(source),
+    );
 }
 
 fn read_lines(table: &[u16], block: &mut [u8; plan::BLOCK_OCTETS], source: &mut [u8]) {
