@@ -63,11 +63,3 @@ then-first a b n = rw (ne-eqb a 0 n)
 
 pub then-both : (a b : ℕ) → a ≡ 0 → b ≡ 0 → andThen a b ≡ 0
 then-both a b e f = then-next a b e ∙ f
-
--- numbers in their order, however they are grouped
-pub then-assoc : (a b d : ℕ) → andThen (andThen a b) d ≡ andThen a (andThen b d)
-then-assoc a b d = go (ℕ-discrete a 0)
-  where
-    go : Dec (a ≡ 0) → andThen (andThen a b) d ≡ andThen a (andThen b d)
-    go (yes e) = rw (eq-eqb a 0 e)
-    go (no n) = rw (ne-eqb a 0 n, ne-eqb a 0 n)

@@ -9,9 +9,6 @@ use Rattle.lists.specs.Parts.{part}
 
 -- runs of a elements, of n, and of any number
 module _ (u v x : List ℕ) (a n : ℕ) (k : length u ≡ a) (l : length v ≡ n) where
-  pub first-of-three : take a (u ++ (v ++ x)) ≡ u
-  first-of-three = take-at u (v ++ x) a k
-
   pub second-of-three : part a (a + n) (u ++ (v ++ x)) ≡ v
   second-of-three = let e : a + n - a ≡ n = omega arith in rw (drop-at u (v ++ x) a k, e) (take-at v x n l)
 

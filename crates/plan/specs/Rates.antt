@@ -17,14 +17,6 @@ rowCounts = 0 ∷ 41 ∷ 49 ∷ 61 ∷ 73 ∷ 81 ∷ 89 ∷ 93 ∷ 97 ∷ 101 �
 unfoldable pub rowsOf : ℕ → ℕ
 rowsOf r = getD rowCounts r 0
 
--- "q = 120 − R"
-unfoldable pub stepOf : ℕ → ℕ
-stepOf r = 120 - rowsOf r
-
--- "LDPC parity 374 × (120 − R)", and "M = 374 × (120 − R)"
-unfoldable pub parityBitsOf : ℕ → ℕ
-parityBitsOf r = 374 * stepOf r
-
 -- "data 374 × (R − 1)" bits
 unfoldable pub dataBitsOf : ℕ → ℕ
 dataBitsOf r = 374 * (rowsOf r - 1)

@@ -15,8 +15,6 @@ pub use rates::RATES;
 pub use rates::data_octets;
 pub use rates::known;
 pub use rates::packets;
-pub use rates::parity_bits;
-pub use rates::parity_step;
 pub use rates::rows;
 pub use state::advanced;
 pub use state::next_place;

@@ -2,7 +2,7 @@
 ghost use mathlib.Core.Bool.{_&&_};
 ghost use mathlib.Core.Path.{_≡_};
 ghost use lib.Dec.{leb};
-ghost use Rattle.plan.specs.Rates.{rowsOf, stepOf, parityBitsOf, dataOctetsOf, packetsOf};
+ghost use Rattle.plan.specs.Rates.{rowsOf, dataOctetsOf, packetsOf};
 
 // How many rates and modulations there are; they are numbered from 1.
 pub const RATES: u16 = 11;
@@ -29,20 +29,6 @@ pub fn rows(rate: u16) -> usize
         return 0;
     }
     ROWS[lists::index(rate)]
-}
-
-// The step q between the positions that a row's bits reach.
-pub fn parity_step(rate: u16) -> usize
-    ensures { λ r. ⌜ r ≡ stepOf rate ⌝ }
-{
-    120 - rows(rate)
-}
-
-// The number M of parity bits.
-pub fn parity_bits(rate: u16) -> usize
-    ensures { λ r. ⌜ r ≡ parityBitsOf rate ⌝ }
-{
-    374 * parity_step(rate)
 }
 
 // The data octets of a slot.
