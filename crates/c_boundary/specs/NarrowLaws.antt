@@ -15,7 +15,7 @@ use Rattle.slot.specs.Calls.{formNumber, checkNumber}
 use Rattle.packets.specs.Packets.{packed, unpacked, sizeNumber, packNumber, unpackNumber}
 use Rattle.published.specs.Published.{tableOf, copyNumber}
 use Rattle.symbols.specs.Labels.{labelsOfSlot, slotOfLabels, slotNumber, slotOfLabelsNumber}
-use Rattle.s3frame.specs.Narrow.{narrowed}
+use Rattle.c_boundary.specs.Narrow.{narrowed}
 
 -- what holds of the narrowed number holds of the number, where that is so for numbers above 255 taken as 255
 pub as-given : (P : ℕ → Type 0) (x : ℕ) → (255 < x → P 255 → P x) → P (narrowed x) → P x

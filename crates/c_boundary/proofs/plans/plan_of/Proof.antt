@@ -1,4 +1,4 @@
--- `s3frame::plan_of`: the length decides between the three columns and the plan of no groups.
+-- `c_boundary::plan_of`: the length decides between the three columns and the plan of no groups.
 use mathlib.Core.Path.{_≡_, sym, _∙_}
 use mathlib.Core.Bool.{true}
 use Prim.Native.Nat.{ℕ, _≤_}
@@ -7,9 +7,9 @@ use borrow.Author.Needs.{needs}
 use borrow.Author.Tests.{leb-true}
 use lib.Dec.{leb}
 use Rattle.lists.specs.ChoiceLaws.{and-left, and-right}
-use Rattle.s3frame.specs.Plans.{lengthOk, planOf}
-use Rattle.s3frame.proofs.plans.plan_of.Statement.{statement}
-use Rattle.s3frame.proofs.plans.plan_of.Tie as tie
+use Rattle.c_boundary.specs.Plans.{lengthOk, planOf}
+use Rattle.c_boundary.proofs.plans.plan_of.Statement.{statement}
+use Rattle.c_boundary.proofs.plans.plan_of.Tie as tie
 
 short : (n : ℕ) → lengthOk n ≡ true → n ≤ 24
 unfolding lengthOk

@@ -1,8 +1,8 @@
--- `s3frame::put_moved`: each way out rewrites with the test on the way to it.
+-- `c_boundary::put_moved`: each way out rewrites with the test on the way to it.
 use borrow.Author.Needs.{needs}
 use borrow.Author.Tests.{eq-eqb, ne-eqb}
-use Rattle.s3frame.proofs.places.put_moved.Statement.{statement}
-use Rattle.s3frame.proofs.places.put_moved.Tie as tie
+use Rattle.c_boundary.proofs.places.put_moved.Statement.{statement}
+use Rattle.c_boundary.proofs.places.put_moved.Tie as tie
 
 returns : tie.Need-returns
 returns c =

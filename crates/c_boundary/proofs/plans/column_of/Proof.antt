@@ -1,8 +1,8 @@
--- `s3frame::column_of`: the eight octets one by one.
+-- `c_boundary::column_of`: the eight octets one by one.
 use borrow.Author.Needs.{needs}
-use Rattle.s3frame.specs.Plans.{column}
-use Rattle.s3frame.proofs.plans.column_of.Statement.{statement}
-use Rattle.s3frame.proofs.plans.column_of.Tie as tie
+use Rattle.c_boundary.specs.Plans.{column}
+use Rattle.c_boundary.proofs.plans.column_of.Statement.{statement}
+use Rattle.c_boundary.proofs.plans.column_of.Tie as tie
 
 returns : tie.Need-returns
 unfolding column

@@ -1,6 +1,6 @@
 // Numbers as C hands them over, and as it gets them back.
 ghost use mathlib.Core.Path.{_≡_};
-ghost use Rattle.s3frame.specs.Narrow.{narrowed};
+ghost use Rattle.c_boundary.specs.Narrow.{narrowed};
 
 // A call's number.
 pub fn word(x: u8) -> u32

@@ -1,8 +1,8 @@
--- `s3frame::state_of`: the plan of the octets, and the numbers beside it.
+-- `c_boundary::state_of`: the plan of the octets, and the numbers beside it.
 use mathlib.Core.Path.{_∙_}
 use borrow.Author.Needs.{needs}
-use Rattle.s3frame.proofs.places.state_of.Statement.{statement}
-use Rattle.s3frame.proofs.places.state_of.Tie as tie
+use Rattle.c_boundary.proofs.places.state_of.Statement.{statement}
+use Rattle.c_boundary.proofs.places.state_of.Tie as tie
 
 returns : tie.Need-returns
 returns c = c .state-at .ensures ∙ rw (c .before .before .plan-of .ensures, c .before .narrow .ensures)

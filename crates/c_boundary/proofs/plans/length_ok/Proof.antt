@@ -1,8 +1,8 @@
--- `s3frame::length_ok`: each way out rewrites with the tests on the way to it.
+-- `c_boundary::length_ok`: each way out rewrites with the tests on the way to it.
 use borrow.Author.Tests.{le-leb, lt-leb}
-use Rattle.s3frame.specs.Plans.{lengthOk}
-use Rattle.s3frame.proofs.plans.length_ok.Statement.{statement}
-use Rattle.s3frame.proofs.plans.length_ok.Tie as tie
+use Rattle.c_boundary.specs.Plans.{lengthOk}
+use Rattle.c_boundary.proofs.plans.length_ok.Statement.{statement}
+use Rattle.c_boundary.proofs.plans.length_ok.Tie as tie
 
 returns : tie.Need-returns
 unfolding lengthOk

@@ -1,7 +1,7 @@
 // A plan lent as octets.
 ghost use mathlib.Core.Path.{_≡_};
 ghost use Prim.Native.Nat.{_<_};
-ghost use Rattle.s3frame.specs.Plans.{lengthOk, column, planOf};
+ghost use Rattle.c_boundary.specs.Plans.{lengthOk, column, planOf};
 use plan::Plan;
 
 // Whether a length is that of 1 to 8 groups of three octets.

@@ -1,9 +1,9 @@
--- `s3frame::with_next`: each way out rewrites with the tests on the way to it.
+-- `c_boundary::with_next`: each way out rewrites with the tests on the way to it.
 use borrow.Author.Needs.{needs}
 use borrow.Author.Tests.{eq-eqb, ne-eqb}
-use Rattle.s3frame.specs.Calls.{nextNumber}
-use Rattle.s3frame.proofs.places.with_next.Statement.{statement}
-use Rattle.s3frame.proofs.places.with_next.Tie as tie
+use Rattle.c_boundary.specs.Calls.{nextNumber}
+use Rattle.c_boundary.proofs.places.with_next.Statement.{statement}
+use Rattle.c_boundary.proofs.places.with_next.Tie as tie
 
 returns : tie.Need-returns
 returns c = rw (ne-eqb _ 0 (c .before .if1 .taken)) (c .word .ensures)

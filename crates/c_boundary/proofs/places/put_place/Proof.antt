@@ -1,12 +1,12 @@
--- `s3frame::put_place`: two numbers set in an area of two are all of it.
+-- `c_boundary::put_place`: two numbers set in an area of two are all of it.
 use mathlib.Core.Path.{_≡_, refl}
 use mathlib.Core.List.{List, [], _∷_}
 use Prim.Native.Nat.{ℕ}
 use native.Mathlib.Omega.{arith}
 use borrow.Author.Needs.{needs}
 use lib.ListN.{length, set}
-use Rattle.s3frame.proofs.places.put_place.Statement.{statement}
-use Rattle.s3frame.proofs.places.put_place.Tie as tie
+use Rattle.c_boundary.proofs.places.put_place.Statement.{statement}
+use Rattle.c_boundary.proofs.places.put_place.Tie as tie
 
 both : (xs : List ℕ) (a b : ℕ) → length xs ≡ 2 → set (set xs 0 a) 1 b ≡ a ∷ b ∷ []
 both [] a b h = absurd (omega arith)

@@ -21,9 +21,9 @@ use Rattle.plan.specs.StateLaws.{ready}
 use Rattle.slot.specs.Slots.{slotOf}
 use Rattle.slot.specs.Reading.{sourceOf}
 use Rattle.slot.specs.Calls.{rowsAt, dataNumber, slotNumber, nextState, codeAnswer, codeArea, readNumber, readAnswer, readArea}
-use Rattle.s3frame.specs.Narrow.{narrowed}
-use Rattle.s3frame.specs.NarrowLaws.{as-given, both-refuse}
-use Rattle.s3frame.specs.Calls.{placed, nextNumber, passCall, slotCall, readCall, Coded, Received}
+use Rattle.c_boundary.specs.Narrow.{narrowed}
+use Rattle.c_boundary.specs.NarrowLaws.{as-given, both-refuse}
+use Rattle.c_boundary.specs.Calls.{placed, nextNumber, passCall, slotCall, readCall, Coded, Received}
 
 pub next-two : (next : List ℕ) → nextNumber next ≡ 0 → length next ≡ 2
 unfolding nextNumber

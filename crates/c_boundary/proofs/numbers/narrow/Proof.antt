@@ -1,9 +1,9 @@
--- `s3frame::narrow`: each arm is what `narrowed` picks there.
+-- `c_boundary::narrow`: each arm is what `narrowed` picks there.
 use borrow.Author.Needs.{needs}
 use borrow.Author.Tests.{le-leb, lt-leb}
-use Rattle.s3frame.specs.Narrow.{narrowed}
-use Rattle.s3frame.proofs.numbers.narrow.Statement.{statement}
-use Rattle.s3frame.proofs.numbers.narrow.Tie as tie
+use Rattle.c_boundary.specs.Narrow.{narrowed}
+use Rattle.c_boundary.proofs.numbers.narrow.Statement.{statement}
+use Rattle.c_boundary.proofs.numbers.narrow.Tie as tie
 
 returns : tie.Need-returns
 unfolding narrowed
