@@ -8,6 +8,7 @@ use native.Mathlib.Numerals.{add-one}
 use borrow.Author.Tests.{eq-eqb}
 use lib.ListN.{length, getD}
 use Rattle.lists.specs.Choice.{pick}
+use Rattle.lists.specs.Count.{joined}
 use Rattle.lists.specs.CountLaws.{joinedAt, length-joined, sum-more, sum-none, sum-same, sum-mono, length-table, getD-table}
 use Rattle.lists.specs.PartLaws.{length-part}
 use Rattle.lists.specs.Pieces.{pieces-cut, length-pieces, pieces-at}
