@@ -24,7 +24,7 @@ use Rattle.codeword.specs.declared.Shape.{Shape}
 use Rattle.codeword.specs.Words.{plain, sent, zeros, parityInput, withParity, wordOf}
 use Rattle.codeword.specs.WordLaws.{Fits, Message, length-plain, zeros-bits, length-input, length-run, word-bits, word-run, word-parity}
 use Rattle.codeword.specs.Reading.{parityIn, takenOff, messageIn, bchIn, EvenTimes}
-use Rattle.codeword.specs.RoundTrips.{coded-read}
+use Rattle.codeword.specs.RoundTrips.{coded-read, word-bch}
 
 -- the BCH bits as sent: dispersed, with the register as it stands behind the message
 bch-sent : (F : Shape) (t : List ℕ) (mask r : ℕ) (m e : List ℕ) → Fits F → Message F m e
@@ -57,9 +57,13 @@ module _ (F : Shape) (t : List ℕ) (mask r : ℕ) (m n e : List ℕ) (f : Fits 
     ap (λ (u : List ℕ). wordOf F t mask r u e),
   )
 
-  -- "all 192, both before dispersal ..": equal exactly when the generator divides the difference of the messages
-  pub bch-equal : (bchBits m ≡ bchBits n) ↔ Divides generator (polynomialOf (added m n))
+  bch-equal : (bchBits m ≡ bchBits n) ↔ Divides generator (polynomialOf (added m n))
   bch-equal = bchBits-equal m n (a .long ∙ sym (b .long)) (a .bits) (b .bits)
+
+  -- "all 192, both before dispersal ..", as they stand in the words once it is taken off: equal exactly when the generator
+  -- divides the difference of the messages
+  pub bch-plain-equal : (bchIn F (takenOff F mask r (wordOf F t mask r m e)) ≡ bchIn F (takenOff F mask r (wordOf F t mask r n e))) ↔ Divides generator (polynomialOf (added m n))
+  bch-plain-equal = rw (word-bch F t mask r m e f a, word-bch F t mask r n e f b) bch-equal
 
   -- ".. and as sent"
   pub bch-sent-equal : (bchIn F (bitsOf (wordOf F t mask r m e)) ≡ bchIn F (bitsOf (wordOf F t mask r n e))) ↔ Divides generator (polynomialOf (added m n))

@@ -14,7 +14,7 @@ use Rattle.bits.specs.Sums.{added}
 use Rattle.dispersal.specs.Dispersal.{dispersed}
 use Rattle.bch.specs.Bch.{bchBits}
 use Rattle.ldpc.specs.Tables.{positions}
-use Rattle.ldpc.specs.Parity.{times, lowestWrong}
+use Rattle.ldpc.specs.Parity.{times, parityOf, lowestWrong}
 use Rattle.codeword.specs.declared.Shape.{Shape}
 use Rattle.codeword.specs.Words.{runBits, parityInput}
 
@@ -59,6 +59,11 @@ checksNumber F wrong u = andThen (parityNumber F wrong) (pick (bchRight F u) 0 B
 -- those of a received word: "and in reading 8, 9", "or 8, 9"
 unfoldable pub wordNumber : Shape → List ℕ → ℕ → ℕ → List ℕ → ℕ
 wordNumber F t mask r c = checksNumber F (wrongPosition F t c) (takenOff F mask r c)
+
+-- a word of which both checks hold
+pub record Good (F : Shape) (t : List ℕ) (mask r : ℕ) (c : List ℕ) : Type 0 where
+  pub parity : parityIn F c ≡ parityOf (F .rows) t (parityInput F (runIn F c))
+  pub bch : bchIn F (takenOff F mask r c) ≡ bchBits (messageIn F (takenOff F mask r c))
 
 -- "the differing bits reach each position an even number of times": those of two words' parity inputs, as sent
 abbrev pub EvenTimes : Shape → List ℕ → List ℕ → List ℕ → Type 0

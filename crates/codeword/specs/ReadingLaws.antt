@@ -26,7 +26,7 @@ use Rattle.ldpc.specs.ParityLaws.{lowestWrong-none}
 use Rattle.codeword.specs.declared.Shape.{Shape}
 use Rattle.codeword.specs.Words.{runBits, parityInput}
 use Rattle.codeword.specs.WordLaws.{Fits}
-use Rattle.codeword.specs.Reading.{runIn, parityIn, takenOff, messageIn, bchIn, tailIn, wrongPosition, parityNumber, bchRight, checksNumber, wordNumber}
+use Rattle.codeword.specs.Reading.{runIn, parityIn, takenOff, messageIn, bchIn, tailIn, wrongPosition, parityNumber, bchRight, checksNumber, wordNumber, Good}
 
 -- the octets of a received word
 pub record Received (F : Shape) (c : List ℕ) : Type 0 where
@@ -83,11 +83,6 @@ pub bch-right : (F : Shape) (u : List ℕ) → (bchRight F u ≡ true) ↔ (bchI
 unfolding bchRight
 bch-right F u =
     ((λ e. sym (same-true (bchBits (messageIn F u)) (bchIn F u) e)), (λ e. same-is (bchBits (messageIn F u)) (bchIn F u) (sym e)))
-
--- a word of which both checks hold
-pub record Good (F : Shape) (t : List ℕ) (mask r : ℕ) (c : List ℕ) : Type 0 where
-  pub parity : parityIn F c ≡ parityOf (F .rows) t (parityInput F (runIn F c))
-  pub bch : bchIn F (takenOff F mask r c) ≡ bchBits (messageIn F (takenOff F mask r c))
 
 -- reading answers 0 exactly when both hold
 pub word-good : (F : Shape) (t : List ℕ) (mask r : ℕ) (c : List ℕ) → Fits F → length c ≡ F .octets → (wordNumber F t mask r c ≡ 0) ↔ Good F t mask r c

@@ -16,8 +16,8 @@ use Rattle.ldpc.specs.Parity.{parityOf}
 use Rattle.codeword.specs.declared.Shape.{Shape}
 use Rattle.codeword.specs.Words.{runBits, plain, sent, parityInput, withParity, wordOf}
 use Rattle.codeword.specs.WordLaws.{Fits, Message, plain-bits, word-run, word-parity, length-wordOf}
-use Rattle.codeword.specs.Reading.{runIn, takenOff, messageIn, bchIn, tailIn, wordNumber}
-use Rattle.codeword.specs.ReadingLaws.{Received, Good, word-good, runIn-bits}
+use Rattle.codeword.specs.Reading.{runIn, takenOff, messageIn, bchIn, tailIn, wordNumber, Good}
+use Rattle.codeword.specs.ReadingLaws.{Received, word-good, runIn-bits}
 
 -- what reading finds in the plain bits of a message m with a tail e
 module _ (F : Shape) (m e : List ℕ) (l : length m ≡ F .message) where
@@ -47,11 +47,15 @@ module _ (F : Shape) (t : List ℕ) (mask r : ℕ) (m e : List ℕ) (f : Fits F)
       ap (dispersed (F .width) mask r) (word-run F t mask r m e f o)
       ∙ dispersed-twice (F .width) mask r (plain m e) (plain-bits m e (o .bits) (o .tail-bits))
 
+  -- and among them the BCH bits of the message
+  pub word-bch : bchIn F (takenOff F mask r (wordOf F t mask r m e)) ≡ bchBits m
+  word-bch = ap (bchIn F) word-takenOff ∙ plain-bch F m e (o .long)
+
   good : Good F t mask r (wordOf F t mask r m e)
   good =
       record {
         parity = word-parity F t mask r m e f o ∙ ap (λ (d : List ℕ). parityOf (F .rows) t (parityInput F d)) (sym (word-run F t mask r m e f o));
-        bch = rw word-takenOff (plain-bch F m e (o .long) ∙ ap bchBits (sym (plain-message F m e (o .long))));
+        bch = word-bch ∙ ap bchBits (sym (ap (messageIn F) word-takenOff ∙ plain-message F m e (o .long)));
       }
 
   -- coding and then reading returns message and tail

@@ -16,7 +16,7 @@ use Rattle.bits.specs.Sums.{addedOctets}
 use Rattle.bits.specs.OctetParts.{length-addedOctets, added-part}
 use Rattle.plan.specs.declared.Plan.{Plan}
 use Rattle.plan.specs.declared.FrameState.{FrameState}
-use Rattle.plan.specs.Rates.{modulationOk, rateOk, symbolsOf}
+use Rattle.plan.specs.Rates.{modulationOk, rateOk, rowsOf, symbolsOf}
 use Rattle.plan.specs.RateLaws.{Rows}
 use Rattle.plan.specs.Sizes.{slotOctets, blockOctets}
 use Rattle.plan.specs.Plans.{modulationOf, rateOf, slotsOf}
@@ -46,7 +46,7 @@ use Rattle.frame.specs.StepLaws.{coded-data}
 use Rattle.frame.specs.Frames.{rowsOfSlot, registerBefore, stateBefore, slotIn, sourceFrom, sourceIn, frameOf, frameNumber}
 use Rattle.frame.specs.FrameLaws.{at, sourceFrom-more, sourceFrom-mono, data-long, slot-at}
 use Rattle.frame.specs.CallLaws.{Lent, frame-lent, frame-yes}
-use Rattle.demands.specs.Statements.{Compared, SlotsCompared, FramesCompared, BlocksCompared, SlotsAdded, FramesAdded, BlocksAdded}
+use Rattle.demands.specs.Statements.{Compared, OnePlace, SlotsCompared, FramesCompared, BlocksCompared, SlotsAdded, FramesAdded, BlocksAdded}
 
 -- the symbol call takes a slot under the modulation and the rate of its place
 symbols-taken : (m rate : ℕ) (c : List ℕ) → modulationOk m ≡ true → rateOk rate ≡ true → length c ≡ slotOctets → labelsNumber m rate (length c) (symbolsOf m) ≡ 0
@@ -64,7 +64,7 @@ slot-symbols R t mask r x y w a b m rate h =
 
 -- two slots c and d, coded from x and y at one place
 compared : (R : ℕ) (t : List ℕ) (m rate mask r : ℕ) (x y : List ℕ) → Rows R → modulationOk m ≡ true → rateOk rate ≡ true → Source R x → Source R y
-    → {c d : List ℕ} → c ≡ slotOf R t mask r x → d ≡ slotOf R t mask r y → Compared R t m rate x y c d
+    → {c d : List ℕ} → c ≡ slotOf R t mask r x → d ≡ slotOf R t mask r y → Compared R t m rate mask r x y c d
 unfolding slotOf
 compared R t m rate mask r x y w h k a b e f =
     let F = slotShape R in
@@ -73,7 +73,7 @@ compared R t m rate mask r x y w h k a b e f =
     rw (e, f) (record {
       symbols-made = (symbols-taken m rate (slotOf R t mask r x) h k (length-slotOf R t mask r x), symbols-taken m rate (slotOf R t mask r y) h k (length-slotOf R t mask r y));
       symbols = slot-symbols R t mask r x y w a b m rate h;
-      bch = words.bch-equal F t mask r (bitsOf x) (bitsOf y) stuffBits (fits R w) p q;
+      bch = words.bch-plain-equal F t mask r (bitsOf x) (bitsOf y) stuffBits (fits R w) p q;
       bch-as-sent = words.bch-sent-equal F t mask r (bitsOf x) (bitsOf y) stuffBits (fits R w) p q;
       ldpc = slots.parity-equal R t mask r x y w a b;
     })
@@ -97,15 +97,27 @@ module _ (s : FrameState) (t x a : List ℕ) (n : codeAnswer s t x a .number ≡
   source : Octets x → Source (rowsAt s) x
   source o = record { octets = o; long = granted .areas .source-long }
 
+-- the same, for a slot that was coded at a state z of the place of s
+module _ {s z : FrameState} (e : OnePlace s z) (t y b : List ℕ) (n : codeAnswer z t y b .number ≡ 0) where
+  rows-there : rowsAt z ≡ rowsAt s
+  unfolding rowsAt
+  rows-there = ap₂ (λ p k. rowsOf (rateOf p (groupAt p k))) (e .plan) (e .slot)
+
+  left-there : codeArea z t y b ≡ slotOf (rowsAt s) t (s .mask) (s .register) y
+  left-there = left z t y b n ∙ rw (rows-there, e .mask, e .register)
+
+  source-there : Octets y → Source (rowsAt s) y
+  source-there o = rw (sym rows-there) (source z t y b n o)
+
 pub slots-compared : SlotsCompared
-slots-compared s t x y a b o q n m =
+slots-compared s z t x y a b e o q n m =
     let g = granted s t x a n .place in
     let v = place-values s (g .ready) in
-    compared (rowsAt s) t _ _ (s .mask) (s .register) x y (g .rows) (v .modulation) (v .rate) (source s t x a n o) (source s t y b m q) (left s t x a n) (left s t y b m)
+    compared (rowsAt s) t _ _ (s .mask) (s .register) x y (g .rows) (v .modulation) (v .rate) (source s t x a n o) (source-there e t y b m q) (left s t x a n) (left-there e t y b m)
 
 pub slots-added : SlotsAdded
 unfolding codeAnswer
-slots-added s t x y z a b c d o q r n m l k =
+slots-added s u v t x y z a b c d f h o q r n m l k =
     let R = rowsAt s in
     let g = granted s t x a n in
     let long = g .areas .source-long in
@@ -114,9 +126,9 @@ slots-added s t x y z a b c d o q r n m l k =
       e,
       left s t sum d e
           ∙ ap (λ (i : ℕ). slotOf R t (s .mask) (s .register) (addedOctets i x y z)) long
-          ∙ slots.slots-three R t (s .mask) (s .register) x y z (g .place .rows) (source s t x a n o) (source s t y b m q) (source s t z c l r)
-          ∙ sym (ap₂ (λ (u v : List ℕ). addedOctets slotOctets u v (codeArea s t z c)) (left s t x a n) (left s t y b m)
-          ∙ ap (addedOctets slotOctets (slotOf R t (s .mask) (s .register) x) (slotOf R t (s .mask) (s .register) y)) (left s t z c l)),
+          ∙ slots.slots-three R t (s .mask) (s .register) x y z (g .place .rows) (source s t x a n o) (source-there f t y b m q) (source-there h t z c l r)
+          ∙ sym (ap₂ (λ (i j : List ℕ). addedOctets slotOctets i j (codeArea v t z c)) (left s t x a n) (left-there f t y b m)
+          ∙ ap (addedOctets slotOctets (slotOf R t (s .mask) (s .register) x) (slotOf R t (s .mask) (s .register) y)) (left-there h t z c l)),
     )
 
 -- a data slot of a frame that was coded
@@ -197,7 +209,7 @@ blocks-compared mask start t x y a b n m =
     record {
       symbols-made = (block-taken (blockOf t mask start x) (length-blockOf t mask start x), block-taken (blockOf t mask start y) (length-blockOf t mask start y));
       symbols = block-symbols t mask start x y lx ly;
-      bch = words.bch-equal blockShape t mask start (messageOf x) (messageOf y) [] block-fits mx my;
+      bch = words.bch-plain-equal blockShape t mask start (messageOf x) (messageOf y) [] block-fits mx my;
       bch-as-sent = words.bch-sent-equal blockShape t mask start (messageOf x) (messageOf y) [] block-fits mx my;
       ldpc = words.parity-equal blockShape t mask start (messageOf x) (messageOf y) [] block-fits mx my;
     }

@@ -2,11 +2,13 @@
 use mathlib.Core.Path.{_≡_, refl, sym, ap, _∙_}
 use mathlib.Core.Bool.{Bool, true, false}
 use mathlib.Core.List.{List}
+use mathlib.Core.Logic.{_↔_, inl}
 use Prim.Native.Nat.{ℕ, _+_, _-_, _*_, _<_}
 use native.Mathlib.Omega.{arith}
 use borrow.Author.Tests.{eq-eqb}
 use lib.ListN.{length, getD}
 use Rattle.lists.specs.Choice.{pick}
+use Rattle.lists.specs.ChoiceLaws.{then-zero, then-both, clash}
 use Rattle.lists.specs.CountLaws.{joined-same}
 use Rattle.lists.specs.Pieces.{pieces-all}
 use Rattle.lists.specs.Runs.{Octets}
@@ -15,28 +17,63 @@ use Rattle.refusal.specs.Numbers.{DUMMY}
 use Rattle.plan.specs.declared.Plan.{Plan}
 use Rattle.plan.specs.declared.FrameState.{FrameState}
 use Rattle.plan.specs.Sizes.{slotOctets, frameOctets}
-use Rattle.plan.specs.Places.{carries}
+use Rattle.plan.specs.Places.{groupAt, carries}
+use Rattle.packets.specs.PacketLaws.{pack-unpack, unpack-pack}
 use Rattle.symbols.specs.CallLaws.{slot-labels-slot, labels-slot-labels, block-labels-block, labels-block-labels}
 use Rattle.slot.specs.Slots.{slotShape, slotOf}
 use Rattle.slot.specs.SlotLaws.{Source}
-use Rattle.slot.specs.Reading.{receivedNumber, sourceOf}
-use Rattle.codeword.specs.ReadingLaws.{Received}
+use Rattle.codeword.specs.Reading.{wordNumber, Good}
+use Rattle.codeword.specs.ReadingLaws.{Received, word-good}
+use Rattle.slot.specs.Reading.{receivedNumber, GoodSlot, sourceOf}
+use Rattle.slot.specs.ReadingLaws.{received-good}
 use Rattle.slot.specs.Calls.{rowsAt}
 use Rattle.slot.specs.RoundTrips as slots
+use Rattle.tmcc.specs.Blocks.{blockShape}
+use Rattle.tmcc.specs.BlockLaws.{fits as block-fits}
+use Rattle.tmcc.specs.Calls.{lentNumber as blockLentNumber, readNumber}
+use Rattle.tmcc.specs.CallLaws.{lent}
 use Rattle.tmcc.specs.RoundTrips as blocks
+use Rattle.frame.specs.Tables.{tableOf}
 use Rattle.frame.specs.Steps.{tableAt, answerAt, readAt}
 use Rattle.frame.specs.StepLaws.{coded-data, coded-dummy, answer-data, answer-dummy, read-dummy}
 use Rattle.frame.specs.Frames.{rowsOfSlot, registerBefore, stateBefore, slotIn, octetsOfSlot, sourceFrom, sourceIn, frameOf, answersOf, sourcesOf}
 use Rattle.frame.specs.FrameLaws.{at, sourceFrom-none, sourceFrom-more, data-long, length-slotIn, length-frameOf, length-sourcesOf, slot-at, answer-at, source-at}
 use Rattle.frame.specs.CallLaws.{Lent, frame-lent, frame-yes, read-lent, read-yes}
 use Rattle.frame.specs.SlotBySlot.{coded-to, read-to, taken, code-answer, code-area, read-answer, read-area, pass-answer}
-use Rattle.demands.specs.Statements.{SlotCodedThenRead, SlotReadThenCoded, FrameCodedThenRead, FrameReadThenCoded, FrameCodedBySlots, FrameReadBySlots, BlockCodedThenRead, BlockReadThenCoded, SlotLabelsBack, LabelsSlotBack, BlockLabelsBack, LabelsBlockBack}
+use Rattle.demands.specs.Statements.{SlotCodedThenRead, SlotReadThenCoded, SlotAccepted, FrameSlotAccepted, BlockAccepted, SlotMovesOn, PackedThenUnpacked, UnpackedThenPacked, FrameCodedThenRead, FrameReadThenCoded, FrameCodedBySlots, FrameReadBySlots, BlockCodedThenRead, BlockReadThenCoded, SlotLabelsBack, LabelsSlotBack, BlockLabelsBack, LabelsBlockBack}
 
 pub slot-coded-then-read : SlotCodedThenRead
 slot-coded-then-read = slots.code-then-read
 
 pub slot-read-then-coded : SlotReadThenCoded
 slot-read-then-coded = slots.read-then-code
+
+pub slot-accepted : SlotAccepted
+slot-accepted s t coded source = (
+  (λ h. let n = slots.read-moves s t coded source .0 (inl h) in (n, slots.read-good s t coded source n .0 h)),
+  (λ o. slots.read-good s t coded source (o .0) .1 (o .1)),
+)
+
+pub block-accepted : BlockAccepted
+unfolding readNumber
+block-accepted mask start t block source = (
+  (λ h.
+      let z = then-zero (blockLentNumber mask start t source block) _ h in
+      (z .0, good (z .0) .0 (z .1))),
+  (λ o. then-both (blockLentNumber mask start t source block) _ (o .0) (good (o .0) .1 (o .1))),
+)
+  where
+    good : blockLentNumber mask start t source block ≡ 0 → (wordNumber blockShape t mask start block ≡ 0) ↔ Good blockShape t mask start block
+    good n = word-good blockShape t mask start block block-fits (lent mask start t source block n .areas .coded-long)
+
+pub slot-moves-on : SlotMovesOn
+slot-moves-on s t source coded other received out n m = sym (slots.next-same s t source coded other received out n m)
+
+pub packed-then-unpacked : PackedThenUnpacked
+packed-then-unpacked = pack-unpack
+
+pub unpacked-then-packed : UnpackedThenPacked
+unpacked-then-packed = unpack-pack
 
 pub block-coded-then-read : BlockCodedThenRead
 block-coded-then-read = blocks.code-then-read
@@ -143,6 +180,36 @@ frame-read-then-coded p mask start ts frame source answers out o lo n =
           (record { opened = l .opened; source-long = long; frame-long = lo ∙ l .frame-long; tables = l .tables });
       slots = λ k h c. slot-again p mask start ts frame source out o (lo ∙ l .frame-long) l k h c;
     }
+
+-- a data slot is answered as a received slot is, and a dummy is answered 2
+pub frame-slot-accepted : FrameSlotAccepted
+unfolding rowsAt tableAt
+frame-slot-accepted p mask start ts source frame answers n k h = go (carries p (k + 1)) refl
+  where
+    s : FrameState
+    s = stateBefore p mask start k
+
+    d : List ℕ
+    d = slotIn frame k
+
+    good : Type 0
+    good = GoodSlot (rowsOfSlot p (k + 1)) (tableOf p ts (groupAt p (k + 1))) mask (registerBefore p mask start k) d
+
+    l : Lent p mask start ts (length source) (length frame)
+    l = read-lent p mask start ts (length source) (length frame) (length answers) n .1
+
+    right : (receivedNumber (rowsOfSlot p (k + 1)) (tableOf p ts (groupAt p (k + 1))) mask (registerBefore p mask start k) d ≡ 0) ↔ good
+    right =
+        received-good (rowsOfSlot p (k + 1)) (tableOf p ts (groupAt p (k + 1))) mask (registerBefore p mask start k) d
+        (at p ts mask start (l .opened) (l .tables) k h .rows) (length-slotIn frame k (l .frame-long) h)
+
+    go : (b : Bool) → carries p (k + 1) ≡ b → (getD (answersOf p ts mask start frame) k 0 ≡ 0) ↔ ((carries p (k + 1) ≡ true) × good)
+    go true c =
+        let e = answer-at p ts mask start frame k h ∙ answer-data s ts c d in
+        ((λ z. (c, right .0 (sym e ∙ z))), (λ o. e ∙ right .1 (o .1)))
+    go false c =
+        let e = answer-at p ts mask start frame k h ∙ answer-dummy s ts c d in
+        ((λ z. absurd (omega (arith, e, z))), (λ o. absurd (clash (carries p (k + 1)) c (o .0))))
 
 pub frame-coded-by-slots : FrameCodedBySlots
 frame-coded-by-slots p mask start ts source frame n =

@@ -5,6 +5,7 @@ use mathlib.Core.Bool.{true, false}
 use mathlib.Core.List.{List, [], _∷_, _++_}
 use mathlib.Core.Logic.{_↔_}
 use Prim.Native.Nat.{ℕ, _+_, _-_, _*_, _%_, _^_, _<_, _≤_}
+use lib.Dec.{eqb}
 use lib.ListN.{length, getD, take, replicate}
 use Rattle.lists.specs.Choice.{pick}
 use Rattle.lists.specs.Count.{table}
@@ -14,31 +15,33 @@ use Rattle.refusal.specs.Answers.{BackAgain}
 use Rattle.bits.specs.Digits.{digits}
 use Rattle.bits.specs.Octets.{bitsOf}
 use Rattle.bits.specs.Sums.{added, addedOctets}
-use Rattle.dispersal.specs.Register.{after}
 use Rattle.dispersal.specs.Dispersal.{dispersed}
 use Rattle.bch.specs.Polynomials.{_⊕_, Divides, polynomialOf}
 use Rattle.bch.specs.Bch.{generator, bchBits}
 use Rattle.ldpc.specs.Tables.{positions}
-use Rattle.ldpc.specs.Parity.{position, times, parityOf, OnlyFirst}
+use Rattle.ldpc.specs.Parity.{times, parityOf, Only}
 use Rattle.plan.specs.declared.Plan.{Plan}
 use Rattle.plan.specs.declared.FrameState.{FrameState}
-use Rattle.plan.specs.Rates.{symbolsOf}
+use Rattle.plan.specs.Rates.{rowsOf, packetsOf, symbolsOf}
 use Rattle.plan.specs.Plans.{modulationOf, rateOf}
 use Rattle.plan.specs.Places.{groupAt, carries}
-use Rattle.plan.specs.Sizes.{slotOctets, slotWidth, blockOctets, blockWidth}
+use Rattle.plan.specs.Sizes.{slotOctets, slotWidth, blockOctets}
 use Rattle.plan.specs.Records.{planIn}
 use Rattle.plan.specs.States.{passed}
+use Rattle.packets.specs.Packets.{packed, unpacked, packNumber, unpackNumber}
 use Rattle.symbols.specs.Index.{bitAt, rightToLeft}
 use Rattle.symbols.specs.Labels.{labelsOfSlot, slotOfLabels, labelsOfBlock, blockOfLabels, blockLabels, slotNumber as labelsNumber, slotOfLabelsNumber, blockNumber as blockLabelsNumber, blockOfLabelsNumber}
-use Rattle.codeword.specs.Reading.{parityIn, bchIn, EvenTimes}
+use Rattle.codeword.specs.declared.Shape.{Shape}
+use Rattle.codeword.specs.Words.{registerAfter as wordRegisterAfter}
+use Rattle.codeword.specs.Reading.{parityIn, takenOff, bchIn, Good, EvenTimes}
 use Rattle.slot.specs.Slots.{slotShape, registerAfter}
-use Rattle.slot.specs.Reading.{covered, parity}
-use Rattle.slot.specs.Calls.{rowsAt, codeAnswer, codeArea, readAnswer, readArea, Answers}
+use Rattle.slot.specs.Reading.{covered, parity, GoodSlot, MovesOn}
+use Rattle.slot.specs.Calls.{rowsAt, slotNumber, codeAnswer, codeArea, readAnswer, readArea, Answers}
 use Rattle.tmcc.specs.Blocks.{sourceOctets as tmccOctets, blockShape, messageOf, blockOf, sourceOf}
-use Rattle.tmcc.specs.Calls.{codeNumber, readNumber}
+use Rattle.tmcc.specs.Calls.{lentNumber as blockLentNumber, codeNumber, readNumber}
 use Rattle.frame.specs.Tables.{tableOf}
 use Rattle.frame.specs.Steps.{tableAt}
-use Rattle.frame.specs.Frames.{rowsOfSlot, stateBefore, slotIn, sourceIn, frameOf, answersOf, sourcesOf, frameNumber, readFrameNumber}
+use Rattle.frame.specs.Frames.{rowsOfSlot, registerBefore, stateBefore, slotIn, sourceIn, frameOf, answersOf, sourcesOf, frameNumber, readFrameNumber}
 use Rattle.frame.specs.Walks.{codedTo, readTo}
 
 -- DEMAND 2, "Coding then reading returns header and data": a slot, at one state with one table
@@ -54,6 +57,35 @@ SlotReadThenCoded =
     (s : FrameState) (t coded source out : List ℕ) → Octets coded → length out ≡ length coded
     → readAnswer s t coded source .number ≡ 0
     → Answers (codeAnswer s t (readArea s t coded source) out) (codeArea s t (readArea s t coded source) out) (readAnswer s t coded source .state) coded
+
+-- "Reading accepts only what passes all checks", and all that does: a slot is answered 0 exactly when nothing that comes
+-- before the slot itself refuses the call, its parity and BCH bits are right, and its stuff bits are ones
+abbrev pub SlotAccepted : Type 0
+SlotAccepted =
+    (s : FrameState) (t coded source : List ℕ)
+    → (readAnswer s t coded source .number ≡ 0) ↔ ((slotNumber s t source coded ≡ 0) × GoodSlot (rowsAt s) t (s .mask) (s .register) coded)
+
+-- so for every slot of a frame that is read
+abbrev pub FrameSlotAccepted : Type 0
+FrameSlotAccepted =
+    (p : Plan) (mask start : ℕ) (ts source frame answers : List ℕ) → readFrameNumber p mask start ts (length source) (length frame) (length answers) ≡ 0
+    → (k : ℕ) → k < 120
+    → (getD (answersOf p ts mask start frame) k 0 ≡ 0)
+    ↔ ((carries p (k + 1) ≡ true) × GoodSlot (rowsOfSlot p (k + 1)) (tableOf p ts (groupAt p (k + 1))) mask (registerBefore p mask start k) (slotIn frame k))
+
+-- and for a TMCC block, which has no stuff bits
+abbrev pub BlockAccepted : Type 0
+BlockAccepted =
+    (mask start : ℕ) (t block source : List ℕ)
+    → (readNumber mask start t block source ≡ 0) ↔ ((blockLentNumber mask start t source block ≡ 0) × Good blockShape t mask start block)
+
+-- "8, 9 and 10 move the slot reader on one place with the register stepped as for a good slot": the state after a slot is
+-- the same, whether it was coded, read well, or read with one of the three
+abbrev pub SlotMovesOn : Type 0
+SlotMovesOn =
+    (s : FrameState) (t source coded other received out : List ℕ)
+    → codeAnswer s t source coded .number ≡ 0 → MovesOn (readAnswer s other received out .number)
+    → readAnswer s other received out .state ≡ codeAnswer s t source coded .state
 
 -- a frame that was coded is read: all header and data octets, and 0 for each data slot
 pub record FrameBack (p : Plan) (mask start : ℕ) (ts source coded out answers : List ℕ) : Type 0 where
@@ -121,6 +153,19 @@ BlockReadThenCoded =
     → readNumber mask start t block source ≡ 0
     → BackAgain (codeNumber mask start t (sourceOf mask start block) out) (blockOf t mask start (sourceOf mask start block)) block
 
+-- packets into data octets and back, and data octets into packets and back
+abbrev pub PackedThenUnpacked : Type 0
+PackedThenUnpacked =
+    (rate : ℕ) (packets : List ℕ) (room : ℕ) → packNumber rate packets room ≡ 0
+    → let octets = packed (packetsOf rate) packets in
+    BackAgain (unpackNumber rate octets (length packets)) (unpacked (packetsOf rate) octets) packets
+
+abbrev pub UnpackedThenPacked : Type 0
+UnpackedThenPacked =
+    (rate : ℕ) (octets : List ℕ) (room : ℕ) → unpackNumber rate octets room ≡ 0
+    → let packets = unpacked (packetsOf rate) octets in
+    BackAgain (packNumber rate packets (length octets)) (packed (packetsOf rate) packets) octets
+
 -- labels and back, of a slot and of a block
 abbrev pub SlotLabelsBack : Type 0
 SlotLabelsBack =
@@ -142,28 +187,43 @@ LabelsBlockBack =
     (labels : List ℕ) (room : ℕ) → blockOfLabelsNumber labels room ≡ 0
     → BackAgain (blockLabelsNumber (length (blockOfLabels labels)) (length labels)) (labelsOfBlock (blockOfLabels labels)) labels
 
--- DEMAND 3: two slots c and d of R rows that were coded from x and y at one place, under the table t, the modulation m and
--- the rate of that place
-pub record Compared (R : ℕ) (t : List ℕ) (m rate : ℕ) (x y c d : List ℕ) : Type 0 where
+-- DEMAND 3: the BCH bits of a coded word, "all 192, both before dispersal", those that stand in it once dispersal is taken
+-- off, ..
+abbrev pub bchBefore : Shape → ℕ → ℕ → List ℕ → List ℕ
+bchBefore F mask r c = bchIn F (takenOff F mask r c)
+
+-- ".. and as sent"
+abbrev pub bchSent : Shape → List ℕ → List ℕ
+bchSent F c = bchIn F (bitsOf c)
+
+-- two slots c and d of R rows that were coded from x and y at one place, under the table t, the modulation m and the rate of
+-- that place, its tap mask and its register r
+pub record Compared (R : ℕ) (t : List ℕ) (m rate mask r : ℕ) (x y c d : List ℕ) : Type 0 where
   -- "The symbols of a slot .. are the labels that its symbol call makes of its octets": it makes them
   pub symbols-made : (labelsNumber m rate (length c) (symbolsOf m) ≡ 0) × (labelsNumber m rate (length d) (symbolsOf m) ≡ 0)
   -- "Two slots coded at one place are equal as symbols exactly when header and data are"
   pub symbols : (labelsOfSlot m rate c ≡ labelsOfSlot m rate d) ↔ (x ≡ y)
-  -- "their BCH bits exactly when the difference is divisible by the twelve-factor generator": "all 192, both before
-  -- dispersal ..
-  pub bch : (bchBits (bitsOf x) ≡ bchBits (bitsOf y)) ↔ Divides generator (polynomialOf (added (bitsOf x) (bitsOf y)))
-  -- .. and as sent"
-  pub bch-as-sent : (bchIn (slotShape R) (bitsOf c) ≡ bchIn (slotShape R) (bitsOf d)) ↔ Divides generator (polynomialOf (added (bitsOf x) (bitsOf y)))
+  -- "their BCH bits exactly when the difference is divisible by the twelve-factor generator"
+  pub bch : (bchBefore (slotShape R) mask r c ≡ bchBefore (slotShape R) mask r d) ↔ Divides generator (polynomialOf (added (bitsOf x) (bitsOf y)))
+  pub bch-as-sent : (bchSent (slotShape R) c ≡ bchSent (slotShape R) d) ↔ Divides generator (polynomialOf (added (bitsOf x) (bitsOf y)))
   -- "their LDPC parities exactly when the differing bits reach each position an even number of times"
   pub ldpc : (parity R c ≡ parity R d) ↔ ((j : ℕ) → j < positions R → times R t (added (covered R c) (covered R d)) j % 2 ≡ 0)
 
--- for slots at one state
+-- "one place means one slot number and one such register": of two states under one plan and one tap mask, whatever the
+-- register's start was in each
+pub record OnePlace (s z : FrameState) : Type 0 where
+  pub plan : planIn z ≡ planIn s
+  pub mask : z .mask ≡ s .mask
+  pub slot : z .slot ≡ s .slot
+  pub register : z .register ≡ s .register
+
+-- for slots at one place
 abbrev pub SlotsCompared : Type 0
 SlotsCompared =
-    (s : FrameState) (t x y a b : List ℕ) → Octets x → Octets y
-    → codeAnswer s t x a .number ≡ 0 → codeAnswer s t y b .number ≡ 0
+    (s z : FrameState) (t x y a b : List ℕ) → OnePlace s z → Octets x → Octets y
+    → codeAnswer s t x a .number ≡ 0 → codeAnswer z t y b .number ≡ 0
     → let g = groupAt (planIn s) (s .slot) in
-    Compared (rowsAt s) t (modulationOf (planIn s) g) (rateOf (planIn s) g) x y (codeArea s t x a) (codeArea s t y b)
+    Compared (rowsAt s) t (modulationOf (planIn s) g) (rateOf (planIn s) g) (s .mask) (s .register) x y (codeArea s t x a) (codeArea z t y b)
 
 -- for every data slot of two frames coded under one plan, its tables and one setting
 abbrev pub FramesCompared : Type 0
@@ -172,30 +232,30 @@ FramesCompared =
     → frameNumber p mask start ts (length x) (length a) ≡ 0 → frameNumber p mask start ts (length y) (length b) ≡ 0
     → (k : ℕ) → k < 120 → carries p (k + 1) ≡ true
     → let g = groupAt p (k + 1) in
-    Compared (rowsOfSlot p (k + 1)) (tableOf p ts g) (modulationOf p g) (rateOf p g) (sourceIn p x k) (sourceIn p y k)
+    Compared (rowsOfSlot p (k + 1)) (tableOf p ts g) (modulationOf p g) (rateOf p g) mask (registerBefore p mask start k) (sourceIn p x k) (sourceIn p y k)
     (slotIn (frameOf p ts mask start x a) k) (slotIn (frameOf p ts mask start y b) k)
 
 -- for two TMCC blocks c and d that were coded from x and y under one table and one setting
-pub record ComparedBlocks (t x y c d : List ℕ) : Type 0 where
+pub record ComparedBlocks (mask start : ℕ) (t x y c d : List ℕ) : Type 0 where
   pub symbols-made : (blockLabelsNumber (length c) blockLabels ≡ 0) × (blockLabelsNumber (length d) blockLabels ≡ 0)
   pub symbols : (labelsOfBlock c ≡ labelsOfBlock d) ↔ (messageOf x ≡ messageOf y)
-  pub bch : (bchBits (messageOf x) ≡ bchBits (messageOf y)) ↔ Divides generator (polynomialOf (added (messageOf x) (messageOf y)))
-  pub bch-as-sent : (bchIn blockShape (bitsOf c) ≡ bchIn blockShape (bitsOf d)) ↔ Divides generator (polynomialOf (added (messageOf x) (messageOf y)))
+  pub bch : (bchBefore blockShape mask start c ≡ bchBefore blockShape mask start d) ↔ Divides generator (polynomialOf (added (messageOf x) (messageOf y)))
+  pub bch-as-sent : (bchSent blockShape c ≡ bchSent blockShape d) ↔ Divides generator (polynomialOf (added (messageOf x) (messageOf y)))
   -- "the whole parity input of a block"
   pub ldpc : (parityIn blockShape c ≡ parityIn blockShape d) ↔ EvenTimes blockShape t c d
 
 abbrev pub BlocksCompared : Type 0
 BlocksCompared =
     (mask start : ℕ) (t x y a b : List ℕ) → codeNumber mask start t x a ≡ 0 → codeNumber mask start t y b ≡ 0
-    → ComparedBlocks t x y (blockOf t mask start x) (blockOf t mask start y)
+    → ComparedBlocks mask start t x y (blockOf t mask start x) (blockOf t mask start y)
 
 -- "three slots add up to the slot of the added inputs", which is coded too
 abbrev pub SlotsAdded : Type 0
 SlotsAdded =
-    (s : FrameState) (t x y z a b c d : List ℕ) → Octets x → Octets y → Octets z
-    → codeAnswer s t x a .number ≡ 0 → codeAnswer s t y b .number ≡ 0 → codeAnswer s t z c .number ≡ 0 → length d ≡ slotOctets
+    (s u v : FrameState) (t x y z a b c d : List ℕ) → OnePlace s u → OnePlace s v → Octets x → Octets y → Octets z
+    → codeAnswer s t x a .number ≡ 0 → codeAnswer u t y b .number ≡ 0 → codeAnswer v t z c .number ≡ 0 → length d ≡ slotOctets
     → let sum = addedOctets (length x) x y z in
-    (codeAnswer s t sum d .number ≡ 0) × (codeArea s t sum d ≡ addedOctets slotOctets (codeArea s t x a) (codeArea s t y b) (codeArea s t z c))
+    (codeAnswer s t sum d .number ≡ 0) × (codeArea s t sum d ≡ addedOctets slotOctets (codeArea s t x a) (codeArea u t y b) (codeArea v t z c))
 
 -- "of whole frames, data slots of the same number s are compared or added, for every such s"
 abbrev pub FramesAdded : Type 0
@@ -220,15 +280,16 @@ BlocksAdded =
 pub record Worked : Type 0 where
   -- "register, mask 2^24, start 1: 24 zeros, then a one; after one slot of rate 1 it holds 512"
   pub slot-gives : dispersed slotWidth (2 ^ 24) 1 (replicate 25 0) ≡ replicate 24 0 ++ (1 ∷ [])
-  pub slot-holds : registerAfter 41 (2 ^ 24) 1 ≡ 512
+  pub slot-holds : registerAfter (rowsOf 1) (2 ^ 24) 1 ≡ 512
   -- "15-bit register, mask 2^14, start 1: after one TMCC block it holds 16384"
-  pub block-holds : after blockWidth (2 ^ 14) 1 (9422 + 192) ≡ 16384
-  -- "rate 5, address 4958: bit 1 reaches 4997 (002). Rate 3, address 22065: bit 1 reaches 58"
-  pub rate-5 : position 81 4958 1 ≡ 4997
-  pub rate-3 : position 61 22065 1 ≡ 58
+  pub block-holds : wordRegisterAfter blockShape (2 ^ 14) 1 ≡ 16384
+  -- "rate 5, address 4958: bit 1 reaches 4997 (002). Rate 3, address 22065: bit 1 reaches 58": a table whose first row is
+  -- this one address, bits of which only bit 1 is set, and how often they reach each position
+  pub rate-5 : (j : ℕ) → times (rowsOf 5) (1 ∷ 4958 ∷ []) (0 ∷ 1 ∷ []) j ≡ pick (eqb 4997 j) 1 0
+  pub rate-3 : (j : ℕ) → times (rowsOf 3) (1 ∷ 22065 ∷ []) (0 ∷ 1 ∷ []) j ≡ pick (eqb 58 j) 1 0
   -- "only bit 0 set, its one address 0: every parity bit is 1; address M − 1: only the last"
-  pub address-first : (rows : ℕ) (t u : List ℕ) → OnlyFirst rows t u 0 → parityOf rows t u ≡ replicate (positions rows) 1
-  pub address-last : (rows : ℕ) (t u : List ℕ) → OnlyFirst rows t u (positions rows - 1) → parityOf rows t u ≡ replicate (positions rows - 1) 0 ++ (1 ∷ [])
+  pub address-first : (rows : ℕ) (t u : List ℕ) → Only rows t u 0 0 → parityOf rows t u ≡ replicate (positions rows) 1
+  pub address-last : (rows : ℕ) (t u : List ℕ) → Only rows t u 0 (positions rows - 1) → parityOf rows t u ≡ replicate (positions rows - 1) 0 ++ (1 ∷ [])
   -- "zero message: BCH zero. Only the last message bit set: BCH is the generator without its top term"
   pub bch-zero : (n : ℕ) → bchBits (replicate n 0) ≡ replicate 192 0
   pub bch-last : (n : ℕ) → bchBits (replicate n 0 ++ (1 ∷ [])) ≡ digits 192 (generator ⊕ 2 ^ 192)

@@ -3,11 +3,13 @@ use Rattle.dispersal.specs.Turning as turning
 use Rattle.bch.specs.BchLaws.{bchBits-zero, bchBits-last}
 use Rattle.ldpc.specs.Cases as parity
 use Rattle.symbols.specs.IndexLaws.{psk8-first, psk8-first-leftward, apsk32-last}
+use Rattle.plan.specs.Rates.{rowsOf}
+use Rattle.codeword.specs.Words.{registerAfter as wordRegisterAfter}
 use Rattle.slot.specs.Slots.{registerAfter, coveredBits}
 use Rattle.demands.specs.Statements.{Worked}
 
 pub worked : Worked
-unfolding registerAfter coveredBits
+unfolding registerAfter coveredBits wordRegisterAfter rowsOf
 worked =
     record {
       slot-gives = turning.slot-gives;

@@ -8,6 +8,7 @@ use native.Mathlib.Numerals.{add-one}
 use borrow.Author.Tests.{eq-eqb}
 use lib.ListN.{length, getD}
 use Rattle.lists.specs.Choice.{pick}
+use Rattle.lists.specs.Count.{joined}
 use Rattle.lists.specs.CountLaws.{joinedAt, length-joined, sum-more, sum-none, sum-same, sum-mono, length-table, getD-table}
 use Rattle.lists.specs.PartLaws.{length-part}
 use Rattle.lists.specs.Pieces.{pieces-cut, length-pieces, pieces-at}
@@ -131,14 +132,18 @@ module _ (p : Plan) (ts : List ℕ) (mask start : ℕ) (source found : List ℕ)
   unfolding parts
   length-part-at k h = length-coded (stateBefore p mask start k) ts (sourceIn p source k) (slotIn found k) (length-slotIn found k l h)
 
-  pub length-frameOf : length (frameOf p ts mask start source found) ≡ frameOctets
+  -- a coded frame is these parts end to end
+  frame-parts : frameOf p ts mask start source found ≡ joined 120 parts
   unfolding frameOf parts
-  length-frameOf = length-pieces 120 slotOctets parts length-part-at
+  frame-parts = refl
+
+  pub length-frameOf : length (frameOf p ts mask start source found) ≡ frameOctets
+  length-frameOf = ap length frame-parts ∙ length-pieces 120 slotOctets parts length-part-at
 
   -- the part of slot k + 1 in a coded frame
   pub slot-at : (k : ℕ) → k < 120 → slotIn (frameOf p ts mask start source found) k ≡ codedAt (stateBefore p mask start k) ts (sourceIn p source k) (slotIn found k)
-  unfolding frameOf parts
-  slot-at k h = pieces-at 120 slotOctets parts length-part-at k h
+  unfolding parts
+  slot-at k h = ap (λ (a : List ℕ). slotIn a k) frame-parts ∙ pieces-at 120 slotOctets parts length-part-at k h
 
 pub length-answersOf : (p : Plan) (ts : List ℕ) (mask start : ℕ) (frame : List ℕ) → length (answersOf p ts mask start frame) ≡ 120
 unfolding answersOf

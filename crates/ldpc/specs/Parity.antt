@@ -44,11 +44,13 @@ parityOf rows t u = table (positions rows) (running (times rows t u))
 unfoldable pub lowestWrong : ℕ → List ℕ → List ℕ → List ℕ → ℕ
 lowestWrong rows t u received = first (positions rows) (λ j. not (eqb (getD (parityOf rows t u) j 0) (getD received j 0)))
 
--- document 01, "Worked by hand": a run in which only bit 0 is set, and a table whose row 0 has one address, a
-pub record OnlyFirst (rows : ℕ) (t u : List ℕ) (a : ℕ) : Type 0 where
+-- document 01, "Worked by hand": a run in which only bit m is set, one of the first row, and a table whose first row has
+-- one address, a
+pub record Only (rows : ℕ) (t u : List ℕ) (m a : ℕ) : Type 0 where
   pub some : 1 ≤ rows
-  pub set : getD u 0 0 ≡ 1
-  pub clear : (k : ℕ) → 0 < k → getD u k 0 ≡ 0
+  pub first-row : m < 374
+  pub set : getD u m 0 ≡ 1
+  pub clear : (k : ℕ) → (k ≡ m → ⊥) → getD u k 0 ≡ 0
   pub one : getD t 0 0 ≡ 1
   pub address : getD t 1 0 ≡ a
   pub below : a < positions rows

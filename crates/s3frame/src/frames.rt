@@ -5,9 +5,7 @@ ghost use lib.ListN.{length};
 ghost use Rattle.lists.specs.Choice.{pick};
 ghost use Rattle.refusal.specs.Answers.{Answered};
 ghost use Rattle.frame.specs.Frames.{frameOf, frameNumber, answersOf, sourcesOf, readFrameNumber};
-ghost use Rattle.s3frame.specs.Plans.{planOf};
-use crate::numbers::word;
-use crate::plans::plan_of;
+ghost use Rattle.c_boundary.specs.Plans.{planOf};
 
 // Codes a whole frame; a refusal leaves the frame as it was.
 #[no_mangle]
@@ -21,8 +19,8 @@ pub extern "C" fn s3_code_frame(
 ) -> u32
     ensures { λ r. ⌜ Answered (frameNumber (planOf (now (plan .entry))) mask start (now (tables .entry)) (length (now (source .entry))) (length (now (frame .entry)))) (frameOf (planOf (now (plan .entry))) (now (tables .entry)) mask start (now (source .entry)) (now (frame .entry))) (now (frame .entry)) r (now (frame .exit)) ⌝ }
 {
-    let p = plan_of(plan);
-    word(frame_coder::code_frame(p, mask, start, tables, source, frame))
+    let p = c_boundary::plan_of(plan);
+    c_boundary::word(frame_coder::code_frame(p, mask, start, tables, source, frame))
 }
 
 // Reads a whole frame: all header and data octets, and an answer octet for each slot; a refusal leaves both areas as they
@@ -41,6 +39,6 @@ pub extern "C" fn s3_read_frame(
     ensures { λ r. ⌜ now (source .exit) ≡ pick (eqb r 0) (sourcesOf (planOf (now (plan .entry))) (now (tables .entry)) mask start (now (frame .entry)) (now (source .entry))) (now (source .entry)) ⌝ }
     ensures { λ r. ⌜ now (answers .exit) ≡ pick (eqb r 0) (answersOf (planOf (now (plan .entry))) (now (tables .entry)) mask start (now (frame .entry))) (now (answers .entry)) ⌝ }
 {
-    let p = plan_of(plan);
-    word(frame_reader::read_frame(p, mask, start, tables, frame, source, answers))
+    let p = c_boundary::plan_of(plan);
+    c_boundary::word(frame_reader::read_frame(p, mask, start, tables, frame, source, answers))
 }

@@ -1,10 +1,7 @@
 // The calls for C and Rust: numbers and slices in, the number of document 01 out.
 mod frames;
 mod labels;
-mod numbers;
 mod packing;
-mod places;
-mod plans;
 mod slots;
 mod states;
 mod tmcc_block;

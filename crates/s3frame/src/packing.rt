@@ -4,15 +4,13 @@ ghost use Rattle.refusal.specs.Answers.{Answered};
 ghost use Rattle.plan.specs.Rates.{packetsOf};
 ghost use Rattle.published.specs.Published.{tableOf, copyNumber};
 ghost use Rattle.packets.specs.Packets.{packed, unpacked, packNumber, unpackNumber};
-use crate::numbers::narrow;
-use crate::numbers::word;
 
 // Packs one slot's packets into data octets; a refusal leaves the octets as they were.
 #[no_mangle]
 pub extern "C" fn s3_pack(rate: u32, packets: &[u8], octets: &mut [u8]) -> u32
     ensures { λ r. ⌜ Answered (packNumber rate (now (packets .entry)) (length (now (octets .entry)))) (packed (packetsOf rate) (now (packets .entry))) (now (octets .entry)) r (now (octets .exit)) ⌝ }
 {
-    word(packets::pack(narrow(rate), packets, octets))
+    c_boundary::word(packets::pack(c_boundary::narrow(rate), packets, octets))
 }
 
 // Unpacks one slot's data octets into packets; a refusal leaves the packets as they were.
@@ -20,7 +18,7 @@ pub extern "C" fn s3_pack(rate: u32, packets: &[u8], octets: &mut [u8]) -> u32
 pub extern "C" fn s3_unpack(rate: u32, octets: &[u8], packets: &mut [u8]) -> u32
     ensures { λ r. ⌜ Answered (unpackNumber rate (now (octets .entry)) (length (now (packets .entry)))) (unpacked (packetsOf rate) (now (octets .entry))) (now (packets .entry)) r (now (packets .exit)) ⌝ }
 {
-    word(packets::unpack(narrow(rate), octets, packets))
+    c_boundary::word(packets::unpack(c_boundary::narrow(rate), octets, packets))
 }
 
 // Copies the published parity table of a rate; a refusal leaves the area as it was.
@@ -28,5 +26,5 @@ pub extern "C" fn s3_unpack(rate: u32, octets: &[u8], packets: &mut [u8]) -> u32
 pub extern "C" fn s3_published_table(rate: u32, table: &mut [u16]) -> u32
     ensures { λ r. ⌜ Answered (copyNumber rate (now (table .entry))) (tableOf rate) (now (table .entry)) r (now (table .exit)) ⌝ }
 {
-    word(published::copy_table(narrow(rate), table))
+    c_boundary::word(published::copy_table(c_boundary::narrow(rate), table))
 }

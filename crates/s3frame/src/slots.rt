@@ -2,13 +2,8 @@
 ghost use mathlib.Core.Path.{_≡_};
 ghost use Rattle.slot.specs.Calls.{checkNumber};
 ghost use Rattle.plan.specs.Records.{stateAt};
-ghost use Rattle.s3frame.specs.Plans.{planOf};
-ghost use Rattle.s3frame.specs.Calls.{Coded, Received};
-use crate::numbers::narrow;
-use crate::numbers::word;
-use crate::places::put_moved;
-use crate::places::state_of;
-use crate::places::with_next;
+ghost use Rattle.c_boundary.specs.Plans.{planOf};
+ghost use Rattle.c_boundary.specs.Calls.{Coded, Received};
 
 // Codes header and data octets into the next slot; a refusal leaves the slot and `next` as they were.
 #[no_mangle]
@@ -25,15 +20,15 @@ pub extern "C" fn s3_code_slot(
 ) -> u32
     ensures { λ r. ⌜ Coded (stateAt (planOf (now (plan .entry))) mask start slot register) (now (table .entry)) (now (source .entry)) (now (coded .entry)) (now (next .entry)) r (now (coded .exit)) (now (next .exit)) ⌝ }
 {
-    let state = state_of(plan, mask, start, slot, register);
-    let number = with_next(slot::data_number(state), next);
+    let state = c_boundary::state_of(plan, mask, start, slot, register);
+    let number = c_boundary::with_next(slot::data_number(state), next);
     if number != 0 {
         return number;
     }
     let answer = slot_coder::code_slot(state, table, source, coded);
     let after = answer.state;
-    put_moved(state.slot, after, next);
-    word(answer.number)
+    c_boundary::put_moved(state.slot, after, next);
+    c_boundary::word(answer.number)
 }
 
 // Reads the next slot into header and data octets; a refusal leaves them as they were, and `next` too unless the slot
@@ -52,15 +47,15 @@ pub extern "C" fn s3_read_slot(
 ) -> u32
     ensures { λ r. ⌜ Received (stateAt (planOf (now (plan .entry))) mask start slot register) (now (table .entry)) (now (coded .entry)) (now (source .entry)) (now (next .entry)) r (now (source .exit)) (now (next .exit)) ⌝ }
 {
-    let state = state_of(plan, mask, start, slot, register);
-    let number = with_next(slot::data_number(state), next);
+    let state = c_boundary::state_of(plan, mask, start, slot, register);
+    let number = c_boundary::with_next(slot::data_number(state), next);
     if number != 0 {
         return number;
     }
     let answer = slot_reader::read_slot(state, table, coded, source);
     let after = answer.state;
-    put_moved(state.slot, after, next);
-    word(answer.number)
+    c_boundary::put_moved(state.slot, after, next);
+    c_boundary::word(answer.number)
 }
 
 // Checks the parity of a slot of a rate, whatever its dispersal.
@@ -68,5 +63,5 @@ pub extern "C" fn s3_read_slot(
 pub extern "C" fn s3_check_parity(rate: u32, table: &[u16], coded: &[u8]) -> u32
     ensures { λ r. ⌜ r ≡ checkNumber rate (now (table .entry)) (now (coded .entry)) ⌝ }
 {
-    word(slot_check::check_parity(narrow(rate), table, coded))
+    c_boundary::word(slot_check::check_parity(c_boundary::narrow(rate), table, coded))
 }

@@ -2,7 +2,6 @@
 ghost use Rattle.refusal.specs.Answers.{Answered};
 ghost use Rattle.tmcc.specs.Blocks.{blockOf, sourceOf};
 ghost use Rattle.tmcc.specs.Calls.{codeNumber, readNumber};
-use crate::numbers::word;
 
 // Codes the octets of a frame's TMCC bits into its block; a refusal leaves the block as it was.
 #[no_mangle]
@@ -15,7 +14,7 @@ pub extern "C" fn s3_code_tmcc(
 ) -> u32
     ensures { λ r. ⌜ Answered (codeNumber mask start (now (table .entry)) (now (source .entry)) (now (block .entry))) (blockOf (now (table .entry)) mask start (now (source .entry))) (now (block .entry)) r (now (block .exit)) ⌝ }
 {
-    word(tmcc_coder::code_block(mask, start, table, source, block))
+    c_boundary::word(tmcc_coder::code_block(mask, start, table, source, block))
 }
 
 // Reads a block: the octets of its TMCC bits; a refusal leaves them as they were.
@@ -29,5 +28,5 @@ pub extern "C" fn s3_read_tmcc(
 ) -> u32
     ensures { λ r. ⌜ Answered (readNumber mask start (now (table .entry)) (now (block .entry)) (now (source .entry))) (sourceOf mask start (now (block .entry))) (now (source .entry)) r (now (source .exit)) ⌝ }
 {
-    word(tmcc_reader::read_block(mask, start, table, block, source))
+    c_boundary::word(tmcc_reader::read_block(mask, start, table, block, source))
 }

@@ -10,8 +10,8 @@ use Rattle.lists.specs.Choice.{pick, andThen}
 use Rattle.refusal.specs.Numbers.{PARITY, BCH, STUFF}
 use Rattle.bits.specs.Digits.{number}
 use Rattle.bits.specs.Octets.{bitsOf, octetsOf}
-use Rattle.codeword.specs.Reading.{takenOff, messageIn, tailIn, wrongPosition, parityNumber, wordNumber}
-use Rattle.slot.specs.Slots.{sourceOctets, coveredBits, slotShape}
+use Rattle.codeword.specs.Reading.{takenOff, messageIn, tailIn, wrongPosition, parityNumber, wordNumber, Good}
+use Rattle.slot.specs.Slots.{sourceOctets, coveredBits, stuffBits, slotShape}
 
 -- "The bits before the parity are the first 374 × R of a slot, as sent", and "the last M bits"
 abbrev pub covered : ℕ → List ℕ → List ℕ
@@ -28,6 +28,11 @@ stuffRight R u = eqb (number 6 (tailIn (slotShape R) u)) 63
 unfoldable pub receivedNumber : ℕ → List ℕ → ℕ → ℕ → List ℕ → ℕ
 receivedNumber R t mask r c =
     andThen (wordNumber (slotShape R) t mask r c) (pick (stuffRight R (takenOff (slotShape R) mask r c)) 0 STUFF)
+
+-- a slot of which all three checks hold: parity and BCH bits as a codeword's, and the stuff bits ones
+pub record GoodSlot (R : ℕ) (t : List ℕ) (mask r : ℕ) (c : List ℕ) : Type 0 where
+  pub word : Good (slotShape R) t mask r c
+  pub stuff : tailIn (slotShape R) (takenOff (slotShape R) mask r c) ≡ stuffBits
 
 -- header and data octets of a received slot
 unfoldable pub sourceOf : ℕ → ℕ → ℕ → List ℕ → List ℕ

@@ -22,10 +22,10 @@ use Rattle.ldpc.specs.Tables.{positions}
 use Rattle.plan.specs.RateLaws.{Rows}
 use Rattle.plan.specs.Sizes.{slotOctets}
 use Rattle.codeword.specs.Reading.{takenOff, messageIn, tailIn, wrongPosition, parityNumber, bchRight, checksNumber, wordNumber}
-use Rattle.codeword.specs.ReadingLaws.{Good, word-good, messageIn-bits, tailIn-bits, messageIn-long, tailIn-long}
+use Rattle.codeword.specs.ReadingLaws.{word-good, messageIn-bits, tailIn-bits, messageIn-long, tailIn-long}
 use Rattle.slot.specs.Slots.{sourceOctets, stuffBits, slotShape}
 use Rattle.slot.specs.SlotLaws.{sizes, fits, Source}
-use Rattle.slot.specs.Reading.{stuffRight, receivedNumber, sourceOf, MovesOn}
+use Rattle.slot.specs.Reading.{stuffRight, receivedNumber, GoodSlot, sourceOf, MovesOn}
 
 -- six ones are the number 63
 ones-number : number 6 stuffBits ≡ 63
@@ -46,11 +46,6 @@ stuff-right R u l z =
       (λ h. sym all ∙ sym back ∙ ap (digits 6) (eqb-true (number 6 e) 63 h) ∙ ones-digits),
       (λ h. eq-eqb (number 6 e) 63 (ap (number 6) h ∙ ones-number)),
     )
-
--- a slot of which all three checks hold: parity and BCH bits as a codeword's, and the stuff bits ones
-pub record GoodSlot (R : ℕ) (t : List ℕ) (mask r : ℕ) (c : List ℕ) : Type 0 where
-  pub word : Good (slotShape R) t mask r c
-  pub stuff : tailIn (slotShape R) (takenOff (slotShape R) mask r c) ≡ stuffBits
 
 -- reading answers 0 exactly when all three hold
 pub received-good : (R : ℕ) (t : List ℕ) (mask r : ℕ) (c : List ℕ) → Rows R → length c ≡ slotOctets → (receivedNumber R t mask r c ≡ 0) ↔ GoodSlot R t mask r c

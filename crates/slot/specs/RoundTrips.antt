@@ -37,8 +37,8 @@ use Rattle.codeword.specs.ReadingLaws.{Received, word-good}
 use Rattle.codeword.specs.RoundTrips.{coded-read as word-back, read-coded as word-again}
 use Rattle.slot.specs.Slots.{sourceOctets, coveredBits, stuffBits, slotShape, slotOf, registerAfter}
 use Rattle.slot.specs.SlotLaws.{Source, fits, message, length-slotOf}
-use Rattle.slot.specs.Reading.{receivedNumber, sourceOf, MovesOn}
-use Rattle.slot.specs.ReadingLaws.{GoodSlot, received-numbers, received-good, sourceOf-source, sourceOf-bits}
+use Rattle.slot.specs.Reading.{receivedNumber, GoodSlot, sourceOf, MovesOn}
+use Rattle.slot.specs.ReadingLaws.{received-numbers, received-good, sourceOf-source, sourceOf-bits}
 use Rattle.slot.specs.Calls.{rowsAt, dataNumber, slotNumber, nextState, codeAnswer, codeArea, readNumber, readAnswer, readArea, Answers}
 use Rattle.slot.specs.CallLaws.{accepted-slot}
 

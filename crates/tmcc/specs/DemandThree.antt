@@ -48,5 +48,5 @@ pub blocks-three : (t : List ℕ) (mask start : ℕ) (x y z : List ℕ) → leng
     → blockOf t mask start (addedOctets sourceOctets x y z) ≡ addedOctets blockOctets (blockOf t mask start x) (blockOf t mask start y) (blockOf t mask start z)
 unfolding blockOf
 blocks-three t mask start x y z a b c =
-    ap (λ (s : List ℕ). wordOf blockShape t mask start s []) (message-three x y z a)
-    ∙ words.words-three blockShape t mask start (messageOf x) (messageOf y) (messageOf z) [] fits (message x a) (message y b) (message z c)
+    rw (message-three x y z a)
+    (words.words-three blockShape t mask _ (messageOf x) (messageOf y) (messageOf z) [] fits (message x a) (message y b) (message z c))

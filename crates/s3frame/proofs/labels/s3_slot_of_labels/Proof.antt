@@ -1,6 +1,6 @@
 -- `s3frame::s3_slot_of_labels`: the call's answer, for modulation and rate as they were handed over.
 use borrow.Author.Needs.{needs}
-use Rattle.s3frame.specs.NarrowLaws.{back-given}
+use Rattle.c_boundary.specs.NarrowLaws.{back-given}
 use Rattle.s3frame.proofs.Worded.{worded}
 use Rattle.s3frame.proofs.labels.s3_slot_of_labels.Statement.{statement}
 use Rattle.s3frame.proofs.labels.s3_slot_of_labels.Tie as tie

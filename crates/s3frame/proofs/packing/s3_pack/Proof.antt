@@ -1,6 +1,6 @@
 -- `s3frame::s3_pack`: the call's answer, for the rate as it was handed over.
 use borrow.Author.Needs.{needs}
-use Rattle.s3frame.specs.NarrowLaws.{pack-given}
+use Rattle.c_boundary.specs.NarrowLaws.{pack-given}
 use Rattle.s3frame.proofs.Worded.{worded}
 use Rattle.s3frame.proofs.packing.s3_pack.Statement.{statement}
 use Rattle.s3frame.proofs.packing.s3_pack.Tie as tie

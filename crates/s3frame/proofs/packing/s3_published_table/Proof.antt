@@ -1,6 +1,6 @@
 -- `s3frame::s3_published_table`: the call's answer, for the rate as it was handed over.
 use borrow.Author.Needs.{needs}
-use Rattle.s3frame.specs.NarrowLaws.{table-given}
+use Rattle.c_boundary.specs.NarrowLaws.{table-given}
 use Rattle.s3frame.proofs.Worded.{worded}
 use Rattle.s3frame.proofs.packing.s3_published_table.Statement.{statement}
 use Rattle.s3frame.proofs.packing.s3_published_table.Tie as tie

@@ -1,7 +1,7 @@
 -- `s3frame::s3_check_parity`: the call's number, for the rate as it was handed over.
 use mathlib.Core.Path.{_∙_}
 use borrow.Author.Needs.{needs}
-use Rattle.s3frame.specs.NarrowLaws.{check-given}
+use Rattle.c_boundary.specs.NarrowLaws.{check-given}
 use Rattle.s3frame.proofs.slots.s3_check_parity.Statement.{statement}
 use Rattle.s3frame.proofs.slots.s3_check_parity.Tie as tie
 

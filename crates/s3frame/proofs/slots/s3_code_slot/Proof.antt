@@ -6,10 +6,10 @@ use Rattle.lists.specs.Choice.{andThen}
 use Rattle.lists.specs.ChoiceLaws.{then-zero}
 use Rattle.slot.specs.Calls.{dataNumber}
 use Rattle.plan.specs.Records.{stateAt}
-use Rattle.s3frame.specs.Narrow.{narrowed}
-use Rattle.s3frame.specs.Plans.{planOf}
-use Rattle.s3frame.specs.Calls.{nextNumber}
-use Rattle.s3frame.specs.CallLaws.{next-two, code-refused, code-good, code-given}
+use Rattle.c_boundary.specs.Narrow.{narrowed}
+use Rattle.c_boundary.specs.Plans.{planOf}
+use Rattle.c_boundary.specs.Calls.{nextNumber}
+use Rattle.c_boundary.specs.CallLaws.{next-two, code-refused, code-good, code-given}
 use Rattle.s3frame.proofs.slots.s3_code_slot.Statement.{statement}
 use Rattle.s3frame.proofs.slots.s3_code_slot.Tie as tie
 

@@ -4,8 +4,8 @@ use borrow.Author.Needs.{needs}
 use borrow.Author.Tests.{eq-eqb, ne-eqb}
 use Rattle.lists.specs.Choice.{andThen}
 use Rattle.plan.specs.States.{opened}
-use Rattle.s3frame.specs.Plans.{planOf}
-use Rattle.s3frame.specs.Calls.{placed, nextNumber, openCall}
+use Rattle.c_boundary.specs.Plans.{planOf}
+use Rattle.c_boundary.specs.Calls.{placed, nextNumber, openCall}
 use Rattle.s3frame.proofs.states.s3_open.Statement.{statement}
 use Rattle.s3frame.proofs.states.s3_open.Tie as tie
 

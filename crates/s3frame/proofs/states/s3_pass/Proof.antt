@@ -6,10 +6,10 @@ use Rattle.lists.specs.ChoiceLaws.{then-zero}
 use Rattle.refusal.specs.AnswerLaws.{refused, accepted}
 use Rattle.plan.specs.Records.{stateAt}
 use Rattle.plan.specs.States.{passNumber, passed}
-use Rattle.s3frame.specs.Narrow.{narrowed}
-use Rattle.s3frame.specs.Plans.{planOf}
-use Rattle.s3frame.specs.Calls.{nextNumber, passCall}
-use Rattle.s3frame.specs.CallLaws.{next-two, pass-given, pass-good}
+use Rattle.c_boundary.specs.Narrow.{narrowed}
+use Rattle.c_boundary.specs.Plans.{planOf}
+use Rattle.c_boundary.specs.Calls.{nextNumber, passCall}
+use Rattle.c_boundary.specs.CallLaws.{next-two, pass-given, pass-good}
 use Rattle.s3frame.proofs.states.s3_pass.Statement.{statement}
 use Rattle.s3frame.proofs.states.s3_pass.Tie as tie
 

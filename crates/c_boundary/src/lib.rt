@@ -1,0 +1,12 @@
+// What the calls for C and Rust add to the entries behind them: a plan of octets, numbers of 32 bits, and `next`.
+mod numbers;
+mod places;
+mod plans;
+
+pub use numbers::narrow;
+pub use numbers::word;
+pub use places::put_moved;
+pub use places::put_place;
+pub use places::state_of;
+pub use places::with_next;
+pub use plans::plan_of;

@@ -1,0 +1,52 @@
+// The state of a call, and the area that takes its next slot and register.
+ghost use mathlib.Core.Path.{_≡_};
+ghost use lib.Dec.{eqb};
+ghost use lib.ListN.{length};
+ghost use Rattle.lists.specs.Choice.{pick, andThen};
+ghost use Rattle.plan.specs.Records.{stateAt};
+ghost use Rattle.c_boundary.specs.Narrow.{narrowed};
+ghost use Rattle.c_boundary.specs.Plans.{planOf};
+ghost use Rattle.c_boundary.specs.Calls.{placed, nextNumber};
+use crate::numbers::narrow;
+use crate::numbers::word;
+use crate::plans::plan_of;
+use plan::FrameState;
+
+// The state that a call is handed.
+pub fn state_of(plan: &[u8], mask: u32, start: u32, slot: u32, register: u32) -> FrameState
+    ensures { λ r. ⌜ r ≡ stateAt (planOf (now (plan .entry))) mask start (narrowed slot) register ⌝ }
+{
+    plan::state_at(plan_of(plan), mask, start, narrow(slot), register)
+}
+
+// A number that refuses, then the refusal of an area that is not two numbers long, or 0.
+pub fn with_next(number: u8, next: &[u32]) -> u32
+    ensures { λ r. ⌜ r ≡ andThen number (nextNumber (now (next .entry))) ⌝ }
+{
+    if number != 0 {
+        return word(number);
+    }
+    if next.len() != 2 {
+        return word(refusal::LENGTH);
+    }
+    0
+}
+
+// Puts a state's next slot and register.
+pub fn put_place(state: FrameState, next: &mut [u32])
+    requires { ⌜ length (now next) ≡ 2 ⌝ }
+    ensures { λ _. ⌜ now (next .exit) ≡ placed state ⌝ }
+{
+    next[0] = state.slot as u32;
+    next[1] = state.register;
+}
+
+// The same where the state has moved on from a slot.
+pub fn put_moved(slot: u16, state: FrameState, next: &mut [u32])
+    requires { ⌜ length (now next) ≡ 2 ⌝ }
+    ensures { λ _. ⌜ now (next .exit) ≡ pick (eqb (state .slot) slot) (now (next .entry)) (placed state) ⌝ }
+{
+    if state.slot != slot {
+        put_place(state, next);
+    }
+}
