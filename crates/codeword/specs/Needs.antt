@@ -5,7 +5,7 @@ use mathlib.Core.List.{List}
 use Prim.Native.Nat.{ℕ, _*_, _^_, _<_}
 use lib.ListN.{length, take}
 use Rattle.lists.specs.Runs.{Bits}
-use Rattle.ldpc.specs.Tables.{positions, tableOk}
+use Rattle.parity_table.specs.Tables.{positions, tableOk}
 use Rattle.codeword.specs.declared.Shape.{Shape}
 use Rattle.codeword.specs.Words.{runBits, registerAfter}
 use Rattle.codeword.specs.WordLaws.{Fits}

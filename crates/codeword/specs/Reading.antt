@@ -13,8 +13,9 @@ use Rattle.bits.specs.Same.{same}
 use Rattle.bits.specs.Sums.{added}
 use Rattle.dispersal.specs.Dispersal.{dispersed}
 use Rattle.bch.specs.Bch.{bchBits}
-use Rattle.ldpc.specs.Tables.{positions}
-use Rattle.ldpc.specs.Parity.{times, parityOf, lowestWrong}
+use Rattle.parity_table.specs.Tables.{positions}
+use Rattle.ldpc.specs.Parity.{times, parityOf}
+use Rattle.parity_check.specs.Check.{lowestWrong}
 use Rattle.codeword.specs.declared.Shape.{Shape}
 use Rattle.codeword.specs.Words.{runBits, parityInput}
 

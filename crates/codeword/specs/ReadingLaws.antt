@@ -20,9 +20,9 @@ use Rattle.bits.specs.OctetLaws.{length-bitsOf, bitsOf-bits}
 use Rattle.bits.specs.SameLaws.{same-is, same-true}
 use Rattle.dispersal.specs.DispersalLaws.{length-dispersed, dispersed-bits}
 use Rattle.bch.specs.Bch.{bchBits}
-use Rattle.ldpc.specs.Tables.{positions}
+use Rattle.parity_table.specs.Tables.{positions}
 use Rattle.ldpc.specs.Parity.{parityOf}
-use Rattle.ldpc.specs.ParityLaws.{lowestWrong-none}
+use Rattle.parity_check.specs.CheckLaws.{lowestWrong-none}
 use Rattle.codeword.specs.declared.Shape.{Shape}
 use Rattle.codeword.specs.Words.{runBits, parityInput}
 use Rattle.codeword.specs.WordLaws.{Fits}

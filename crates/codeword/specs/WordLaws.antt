@@ -12,7 +12,7 @@ use Rattle.bits.specs.OctetLaws.{length-octetsOf, octetsOf-octets, bits-octets}
 use Rattle.dispersal.specs.DispersalLaws.{length-dispersed, dispersed-bits}
 use Rattle.bch.specs.Bch.{bchBits}
 use Rattle.bch.specs.BchLaws.{length-bchBits, bchBits-bits}
-use Rattle.ldpc.specs.Tables.{positions}
+use Rattle.parity_table.specs.Tables.{positions}
 use Rattle.ldpc.specs.Parity.{parityOf}
 use Rattle.ldpc.specs.ParityLaws.{length-parityOf, parityOf-bits}
 use Rattle.codeword.specs.declared.Shape.{Shape}

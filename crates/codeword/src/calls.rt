@@ -15,7 +15,7 @@ pub fn lent_number(shape: Shape, octets: usize, table: &[u16], source: &[u8], co
     if coded.len() != shape.octets {
         return refusal::LENGTH;
     }
-    if ldpc::table_ok(shape.rows, table) {
+    if parity_table::table_ok(shape.rows, table) {
         return 0;
     }
     refusal::TABLE

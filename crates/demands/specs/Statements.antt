@@ -18,7 +18,7 @@ use Rattle.bits.specs.Sums.{added, addedOctets}
 use Rattle.dispersal.specs.Dispersal.{dispersed}
 use Rattle.bch.specs.Polynomials.{_⊕_, Divides, polynomialOf}
 use Rattle.bch.specs.Bch.{generator, bchBits}
-use Rattle.ldpc.specs.Tables.{positions}
+use Rattle.parity_table.specs.Tables.{positions}
 use Rattle.ldpc.specs.Parity.{times, parityOf, Only}
 use Rattle.plan.specs.declared.Plan.{Plan}
 use Rattle.plan.specs.declared.FrameState.{FrameState}

@@ -14,7 +14,7 @@ use Rattle.lists.specs.PartLaws.{length-part}
 use Rattle.lists.specs.Pieces.{pieces-cut, length-pieces, pieces-at}
 use Rattle.dispersal.specs.Register.{registerOk}
 use Rattle.dispersal.specs.RegisterLaws.{after-ok}
-use Rattle.ldpc.specs.Tables.{tableOk}
+use Rattle.parity_table.specs.Tables.{tableOk}
 use Rattle.plan.specs.declared.Plan.{Plan}
 use Rattle.plan.specs.Sizes.{slotWidth, slotOctets, frameOctets}
 use Rattle.plan.specs.RateLaws.{Rows, rows-most}

@@ -12,8 +12,8 @@ use lib.Seq.{drop-drop}
 use Rattle.lists.specs.Count.{joined}
 use Rattle.lists.specs.CountLaws.{every-at, every-all, joinedAt, length-joined, joined-part, sum-none, sum-more, sum-mono}
 use Rattle.lists.specs.ChoiceLaws.{and-left, and-both, false-of}
-use Rattle.ldpc.specs.Tables.{tableOk, tableLength}
-use Rattle.ldpc.specs.TableLaws.{table-rows, tableLength-within, tableLength-some, tableLength-append, table-head}
+use Rattle.parity_table.specs.Tables.{tableOk, tableLength}
+use Rattle.parity_table.specs.TableLaws.{table-rows, tableLength-within, tableLength-some, tableLength-append, table-head}
 use Rattle.plan.specs.declared.Plan.{Plan}
 use Rattle.plan.specs.Rates.{rowsOf}
 use Rattle.plan.specs.Plans.{rateOf}

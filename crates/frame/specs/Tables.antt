@@ -7,7 +7,7 @@ use lib.Dec.{eqb}
 use lib.ListN.{length, drop}
 use Rattle.lists.specs.Count.{every}
 use Rattle.lists.specs.Parts.{part}
-use Rattle.ldpc.specs.Tables.{tableOk, tableLength}
+use Rattle.parity_table.specs.Tables.{tableOk, tableLength}
 use Rattle.plan.specs.declared.Plan.{Plan}
 use Rattle.plan.specs.Rates.{rowsOf}
 use Rattle.plan.specs.Plans.{rateOf}

@@ -5,16 +5,15 @@ use Prim.Native.Nat.{ℕ, zero, suc, _+_, _*_, _-_, _%_, _/_, _<_, _≤_}
 use native.Mathlib.Nat.{mod-lt, mod-eq-of-lt, div-eq-of-lt, mul-add-mod-self-left, mul-add-div, div-add-mod, div-lt-iff-lt-mul, mul-comm, mul-add, mul-assoc, mul-left-comm, mul-le-mul-left}
 use native.Mathlib.Decide.{ℕ-discrete, decLt}
 use native.Mathlib.Omega.{arith}
-use borrow.Author.Tests.{le-leb, lt-leb, eq-eqb, ne-eqb}
+use borrow.Author.Tests.{eq-eqb, ne-eqb}
 use lib.ListN.{length, getD, take, drop, length-drop, List·getD-append}
 use lib.Seq.{length-take-le, getD-take, getD-drop, getD-append-add}
 use Rattle.lists.specs.Count.{sum}
 use Rattle.lists.specs.CountLaws.{sum-add, sum-same, sum-each}
 use Rattle.lists.specs.Parts.{part, put}
-use Rattle.ldpc.specs.Tables.{spacing}
-use Rattle.ldpc.specs.Parity.{bitTimes, rowTimes}
+use Rattle.ldpc.specs.Parity.{spacing, bitTimes, rowTimes}
 use Rattle.ldpc.specs.ParityLaws.{bitTimes-none, bitTimes-more}
-use Rattle.ldpc.specs.Columns.{across, nextPlace, turned, addressTimes}
+use Rattle.ldpc.specs.Columns.{across, turned, addressTimes}
 
 -- the number counted along the rows of what stands in place j of column c
 pub across-at : (a b c j : ℕ) → j < b → across a b (b * c + j) ≡ a * j + c
@@ -30,31 +29,6 @@ across-back q p h =
     let z : 0 < q = omega arith in
     let b : p / q < 374 = div-lt-iff-lt-mul z .1 h in
     across-at q 374 (p % q) (p / q) b ∙ div-add-mod p q
-
--- position 0 stands at place 0
-pub place-none : (q : ℕ) → 0 < q → across 374 q 0 ≡ 0
-place-none q z = omega (arith, mod-eq-of-lt z, div-eq-of-lt z)
-
--- the place of a position is one of the places
-pub place-below : (q p : ℕ) → p < 374 * q → across 374 q p < 374 * q
-place-below q p h =
-    let z : 0 < q = omega arith in
-    let b : p / q < 374 = div-lt-iff-lt-mul z .1 h in
-    omega (arith, mod-lt p z)
-
--- and a step on is that of the next position
-pub place-next : (q edge p : ℕ) → edge + 374 ≡ 374 * q → p < 374 * q → nextPlace edge (across 374 q p) ≡ across 374 q (p + 1)
-place-next q edge p w h =
-    let z : 0 < q = omega arith in
-    go (div-lt-iff-lt-mul z .1 h) (div-add-mod p q) (mod-lt p z) (decLt (p % q + 1) q)
-  where
-    go : p / q < 374 → q * (p / q) + p % q ≡ p → p % q < q → Dec (p % q + 1 < q) → nextPlace edge (across 374 q p) ≡ across 374 q (p + 1)
-    go b e r (yes l) =
-        let n : p + 1 ≡ q * (p / q) + (p % q + 1) = omega arith in
-        rw (lt-leb edge (across 374 q p) (omega arith), n) (omega (arith, across-at 374 q (p / q) (p % q + 1) l))
-    go b e r (no l) =
-        let n : p + 1 ≡ q * (p / q + 1) + 0 = omega (arith, mul-add q (p / q) 1) in
-        rw (le-leb edge (across 374 q p) (omega arith), n) (omega (arith, across-at 374 q (p / q + 1) 0 (omega arith)))
 
 -- place j of column c is one of the positions
 pub across-below : (q j c : ℕ) → j < 374 → c < q → q * j + c < 374 * q

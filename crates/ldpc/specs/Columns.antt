@@ -2,7 +2,7 @@
 -- position q × j + c stands in place j of column c: bit m of a row adds to the place m further on in the same column.
 use mathlib.Core.List.{List, _++_}
 use Prim.Native.Nat.{ℕ, _+_, _*_, _-_, _%_, _/_}
-use lib.Dec.{eqb, leb}
+use lib.Dec.{eqb}
 use lib.ListN.{getD, take, drop}
 use Rattle.lists.specs.Choice.{pick}
 use Rattle.lists.specs.Count.{sum}
@@ -11,10 +11,6 @@ use Rattle.lists.specs.Count.{sum}
 -- `across q 374 n` is the position that stands at n in the columns, and position p stands there at `across 374 q p`
 abbrev pub across : ℕ → ℕ → ℕ → ℕ
 across a b n = a * (n % b) + n / b
-
--- the place behind place n: in the column behind it, and behind the last column, from edge on, in the first, one place on
-abbrev pub nextPlace : ℕ → ℕ → ℕ
-nextPlace edge n = pick (leb edge n) (n - edge + 1) (n + 374)
 
 -- the 374 bits of a row turned by n places: bit m at n + m, less 374 when that is reached
 abbrev pub turned : ℕ → List ℕ → List ℕ

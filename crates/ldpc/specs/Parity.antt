@@ -1,13 +1,16 @@
 -- Parity (document 01, "Checks in the slot" and "What demand 3 compares"). Bits are 0 or 1, in runs of 374 for each row.
 use mathlib.Core.Path.{_≡_}
-use mathlib.Core.Bool.{not}
 use mathlib.Core.List.{List}
-use Prim.Native.Nat.{ℕ, zero, suc, _+_, _*_, _%_, _<_, _≤_}
+use Prim.Native.Nat.{ℕ, zero, suc, _+_, _*_, _-_, _%_, _<_, _≤_}
 use lib.Dec.{eqb}
 use lib.ListN.{getD}
 use Rattle.lists.specs.Choice.{pick}
-use Rattle.lists.specs.Count.{sum, first, table}
-use Rattle.ldpc.specs.Tables.{spacing, positions, rowStart}
+use Rattle.lists.specs.Count.{sum, table}
+use Rattle.parity_table.specs.Tables.{positions, rowStart}
+
+-- q of document 01: "q = 120 − R"
+abbrev pub spacing : ℕ → ℕ
+spacing rows = 120 - rows
 
 -- "(address + m × q) mod M"
 abbrev pub position : ℕ → ℕ → ℕ → ℕ
@@ -38,11 +41,6 @@ running f (suc j) = (f (suc j) + running f j) % 2
 -- the parity bits of u
 unfoldable pub parityOf : ℕ → List ℕ → List ℕ → List ℕ
 parityOf rows t u = table (positions rows) (running (times rows t u))
-
--- the lowest position at which the received parity is wrong, or M where there is none ("The parity check stops
--- where the first wrong position shows")
-unfoldable pub lowestWrong : ℕ → List ℕ → List ℕ → List ℕ → ℕ
-lowestWrong rows t u received = first (positions rows) (λ j. not (eqb (getD (parityOf rows t u) j 0) (getD received j 0)))
 
 -- document 01, "Worked by hand": a run in which only bit m is set, one of the first row, and a table whose first row has
 -- one address, a

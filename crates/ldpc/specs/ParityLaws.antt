@@ -1,24 +1,21 @@
--- Laws of parity: the times that a position is reached, the running sum, the parity bits and their check.
+-- Laws of parity: the times that a position is reached, the running sum and the parity bits.
 use mathlib.Core.Path.{_≡_, refl, sym, ap, ap₂, _∙_}
 use mathlib.Core.Logic.{_↔_}
-use mathlib.Core.Bool.{Bool, true, false, not}
+use mathlib.Core.Bool.{Bool, true, false}
 use mathlib.Core.List.{List}
 use Prim.Native.Nat.{ℕ, zero, suc, _+_, _*_, _%_, _<_, _≤_}
-use native.Mathlib.Decide.{ℕ-discrete, decLt}
+use native.Mathlib.Decide.{decLt}
 use native.Mathlib.Omega.{arith}
-use borrow.Author.Tests.{eq-eqb, ne-eqb}
 use lib.Dec.{eqb}
 use lib.ListN.{length, getD, List·getD-eq-default}
-use lib.Seq.{ext-getD}
 use Rattle.lists.specs.Choice.{pick}
-use Rattle.lists.specs.ChoiceLaws.{clash}
 use Rattle.lists.specs.Count.{sum}
-use Rattle.lists.specs.CountLaws.{sum-none, sum-more, length-table, getD-table, table-is, first-first, first-is}
+use Rattle.lists.specs.CountLaws.{sum-none, sum-more, length-table, getD-table, table-is}
 use Rattle.lists.specs.Runs.{Bits}
 use Rattle.bits.specs.Sums.{added}
 use Rattle.bits.specs.SumLaws.{length-added, getD-added}
-use Rattle.ldpc.specs.Tables.{positions, rowStart}
-use Rattle.ldpc.specs.Parity.{position, bitTimes, rowTimes, timesTo, times, running, parityOf, lowestWrong}
+use Rattle.parity_table.specs.Tables.{positions, rowStart}
+use Rattle.ldpc.specs.Parity.{position, bitTimes, rowTimes, timesTo, times, running, parityOf}
 
 module _ (rows : ℕ) (t : List ℕ) (from m b j : ℕ) where
   pub bitTimes-none : bitTimes rows t from 0 m b j ≡ 0
@@ -161,44 +158,3 @@ parityOf-equal rows t u v l = (there, back)
         let a = running-below (times rows t u) j in
         let b = running-below (times rows t v) j in
         omega (arith, getD-parityOf rows t u j h, both j))
-
-module _ (rows : ℕ) (t u received : List ℕ) where
-  -- what makes r the answer of the check
-  pub lowestWrong-is : (r : ℕ) → r ≤ positions rows
-      → ((j : ℕ) → j < r → getD (parityOf rows t u) j 0 ≡ getD received j 0)
-      → (r < positions rows → getD (parityOf rows t u) r 0 ≡ getD received r 0 → ⊥)
-      → lowestWrong rows t u received ≡ r
-  unfolding lowestWrong
-  lowestWrong-is r w b n =
-      first-is (positions rows) _ r
-      (record {
-        within = w;
-        before = λ j h. ap not (eq-eqb (getD (parityOf rows t u) j 0) (getD received j 0) (b j h));
-        there = λ h. ap not (ne-eqb (getD (parityOf rows t u) r 0) (getD received r 0) (n h));
-      })
-
-  pub lowestWrong-within : lowestWrong rows t u received ≤ positions rows
-  unfolding lowestWrong
-  lowestWrong-within = first-first (positions rows) _ .within
-
-  alike : (a b : ℕ) → not (eqb a b) ≡ false → a ≡ b
-  alike a b h = go (ℕ-discrete a b)
-    where
-      go : Dec (a ≡ b) → a ≡ b
-      go (yes e) = e
-      go (no n) = absurd (clash _ h (ap not (ne-eqb a b n)))
-
-  -- the bits below the answer are right
-  pub lowestWrong-before : (j : ℕ) → j < lowestWrong rows t u received → getD (parityOf rows t u) j 0 ≡ getD received j 0
-  unfolding lowestWrong
-  lowestWrong-before j h =
-      alike (getD (parityOf rows t u) j 0) (getD received j 0) (first-first (positions rows) (λ j. not (eqb (getD (parityOf rows t u) j 0) (getD received j 0))) .before j h)
-
-  -- the check answers M exactly when the received parity is the parity
-  pub lowestWrong-none : length received ≡ positions rows → lowestWrong rows t u received ≡ positions rows ↔ received ≡ parityOf rows t u
-  lowestWrong-none l = (
-    (λ e.
-        ext-getD 0 received (parityOf rows t u) (l ∙ sym (length-parityOf rows t u))
-        (λ j h. sym (lowestWrong-before j (omega arith)))),
-    (λ e. lowestWrong-is (positions rows) (omega arith) (λ j h. ap (λ (x : List ℕ). getD x j 0) (sym e)) (λ h. absurd (omega arith))),
-  )

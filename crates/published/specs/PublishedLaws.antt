@@ -9,7 +9,7 @@ use lib.Dec.{leb}
 use lib.ListN.{length}
 use Rattle.lists.specs.Count.{every}
 use Rattle.lists.specs.CountLaws.{every-at}
-use Rattle.ldpc.specs.Tables.{rowStart, addressOk, rowOk, rowsOk, tableOk}
+use Rattle.parity_table.specs.Tables.{rowStart, addressOk, rowOk, rowsOk, tableOk}
 use Rattle.published.specs.Printed.{rate1, rate2, rate3, rate4, rate5, rate6, rate7, rate8, rate9, rate10, rate11}
 use Rattle.published.specs.Published.{printed, form, nth, tableAt, tableOf, copyNumber}
 use Rattle.plan.specs.Rates.{rateOk, rowsOf}

@@ -6,7 +6,7 @@ use lib.Dec.{eqb}
 use lib.ListN.{length}
 use Rattle.lists.specs.Choice.{pick, andThen}
 use Rattle.refusal.specs.Numbers.{PLAN, DUMMY, LENGTH, TABLE}
-use Rattle.ldpc.specs.Tables.{tableOk}
+use Rattle.parity_table.specs.Tables.{tableOk}
 use Rattle.plan.specs.Records.{planIn}
 use Rattle.plan.specs.declared.FrameState.{FrameState}
 use Rattle.plan.specs.declared.Answer.{Answer}

@@ -9,7 +9,7 @@ use Rattle.bits.specs.Octets.{bitsOf}
 use Rattle.bits.specs.OctetLaws.{bits-octets}
 use Rattle.bits.specs.Sums.{added, addedThree, addedOctets}
 use Rattle.bits.specs.SumLaws.{length-three, three-bits}
-use Rattle.ldpc.specs.Tables.{positions}
+use Rattle.parity_table.specs.Tables.{positions}
 use Rattle.ldpc.specs.Parity.{times}
 use Rattle.plan.specs.RateLaws.{Rows}
 use Rattle.plan.specs.Sizes.{slotOctets}

@@ -20,7 +20,7 @@ use Rattle.bits.specs.Octets.{bitsOf}
 use Rattle.bits.specs.OctetLaws.{octets-bits}
 use Rattle.dispersal.specs.Register.{registerOk, settingsOk}
 use Rattle.dispersal.specs.RegisterLaws.{after-ok}
-use Rattle.ldpc.specs.Tables.{tableOk}
+use Rattle.parity_table.specs.Tables.{tableOk}
 use Rattle.plan.specs.Records.{planIn}
 use Rattle.plan.specs.RateLaws.{Rows}
 use Rattle.plan.specs.declared.Plan.{Plan}

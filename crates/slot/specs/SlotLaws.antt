@@ -9,7 +9,7 @@ use Rattle.lists.specs.RunLaws.{below-replicate}
 use Rattle.bits.specs.Octets.{bitsOf}
 use Rattle.bits.specs.OctetLaws.{length-bitsOf, bitsOf-bits}
 use Rattle.dispersal.specs.Register.{after}
-use Rattle.ldpc.specs.Tables.{positions}
+use Rattle.parity_table.specs.Tables.{positions}
 use Rattle.plan.specs.RateLaws.{Rows}
 use Rattle.plan.specs.Sizes.{slotBits, slotOctets, slotWidth}
 use Rattle.codeword.specs.Words.{registerAfter as registerAfterWord}

@@ -10,7 +10,7 @@ use borrow.Author.Tests.{eqb-true}
 use Rattle.lists.specs.Choice.{pick}
 use Rattle.lists.specs.ChoiceLaws.{then-zero, not-refused}
 use Rattle.refusal.specs.Numbers.{PLAN, LENGTH, TABLE}
-use Rattle.ldpc.specs.Tables.{tableOk}
+use Rattle.parity_table.specs.Tables.{tableOk}
 use Rattle.plan.specs.Rates.{rateOk, rowsOf}
 use Rattle.plan.specs.Sizes.{slotOctets}
 use Rattle.slot.specs.Calls.{formNumber}

@@ -14,7 +14,7 @@ fn form_number(rate: u16, table: &[u16], coded: &[u8]) -> u8
     if coded.len() != plan::SLOT_OCTETS {
         return refusal::LENGTH;
     }
-    if ldpc::table_ok(plan::rows(rate), table) {
+    if parity_table::table_ok(plan::rows(rate), table) {
         return 0;
     }
     refusal::TABLE

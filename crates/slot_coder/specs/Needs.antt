@@ -4,7 +4,7 @@ use mathlib.Core.Bool.{true}
 use mathlib.Core.List.{List}
 use Prim.Native.Nat.{ℕ, _^_, _<_}
 use lib.ListN.{length}
-use Rattle.ldpc.specs.Tables.{tableOk}
+use Rattle.parity_table.specs.Tables.{tableOk}
 use Rattle.plan.specs.RateLaws.{Rows}
 use Rattle.plan.specs.Sizes.{slotBits, slotOctets, slotWidth}
 use Rattle.codeword.specs.Words.{runBits}

@@ -4,7 +4,7 @@ use mathlib.Core.List.{List}
 use mathlib.Core.Bool.{true}
 use Prim.Native.Nat.{ℕ, _≤_}
 use lib.ListN.{length}
-use Rattle.ldpc.specs.Tables.{tableOk}
+use Rattle.parity_table.specs.Tables.{tableOk}
 use Rattle.plan.specs.Sizes.{blockBits, blockOctets}
 
 -- room for eight tables, and for the header and data octets of a frame at the highest rate, of which so many are taken

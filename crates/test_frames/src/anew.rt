@@ -13,7 +13,7 @@ fn remake(table: &[u16], block: &mut [u8], bits: &mut [u8], input: &mut [u8])
 
 // Puts the parity behind a block's bits, where the table is accepted.
 pub fn put_parity(table: &[u16], block: &mut [u8; plan::BLOCK_OCTETS]) {
-    if ldpc::table_ok(61, table) {
+    if parity_table::table_ok(61, table) {
         let mut bits = [0u8; plan::BLOCK_BITS];
         let mut input = [0u8; 22814];
         remake(table, block, &mut bits, &mut input);

@@ -4,8 +4,8 @@ use mathlib.Core.Bool.{true}
 use mathlib.Core.List.{List}
 use Prim.Native.Nat.{ℕ}
 use lib.ListN.{length}
-use Rattle.ldpc.specs.Needs.{Rows}
-use Rattle.ldpc.specs.Tables.{tableOk}
+use Rattle.parity_table.specs.Needs.{Rows}
+use Rattle.parity_table.specs.Tables.{tableOk}
 use Rattle.plan.specs.Sizes.{slotBits, slotOctets}
 
 -- an accepted table, a slot, and an area each for its bits and for the parity of any number of rows

@@ -19,7 +19,7 @@ pub fn put_parity(rate: u16, table: &[u16], coded: &mut [u8; plan::SLOT_OCTETS])
     if rows == 0 {
         return;
     }
-    if ldpc::table_ok(rows, table) {
+    if parity_table::table_ok(rows, table) {
         let mut bits = [0u8; plan::SLOT_BITS];
         let mut sums = [0u8; plan::SLOT_BITS];
         remake(rows, table, coded, &mut bits, &mut sums);

@@ -29,7 +29,7 @@ pub fn wrong_position(
     let run = codeword::run_bits(shape);
     bits::expand(coded, bits);
     codeword::put_input(shape, &bits[0..run], input);
-    ldpc::lowest_wrong(shape.rows, table, input, &bits[run..], sums)
+    parity_check::lowest_wrong(shape.rows, table, input, &bits[run..], sums)
 }
 
 // The refusal of a parity whose lowest wrong position this is, or 0.

@@ -5,7 +5,7 @@ use Prim.Native.Nat.{ℕ}
 use native.Mathlib.Omega.{arith}
 use borrow.Author.Needs.{needs}
 use borrow.Author.Tests.{not-true, not-false, eq-eqb, ne-eqb}
-use Rattle.ldpc.specs.Tables.{tableOk}
+use Rattle.parity_table.specs.Tables.{tableOk}
 use Rattle.plan.specs.Rates.{rateOk, rowsOf}
 use Rattle.plan.specs.RateLaws.{rate-rows}
 use Rattle.slot.specs.Calls.{formNumber}

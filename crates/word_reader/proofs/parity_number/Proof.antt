@@ -2,7 +2,7 @@
 use mathlib.Core.Path.{_≡_}
 use borrow.Author.Needs.{needs}
 use borrow.Author.Tests.{eq-eqb, ne-eqb}
-use Rattle.ldpc.specs.Tables.{positions}
+use Rattle.parity_table.specs.Tables.{positions}
 use Rattle.codeword.specs.Reading.{parityNumber}
 use Rattle.word_reader.proofs.parity_number.Statement.{statement}
 use Rattle.word_reader.proofs.parity_number.Tie as tie

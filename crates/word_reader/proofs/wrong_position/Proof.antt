@@ -6,7 +6,7 @@ use native.Mathlib.Omega.{arith}
 use borrow.Author.Needs.{needs}
 use lib.ListN.{length, take, drop}
 use Rattle.lists.specs.PartLaws.{length-part, take-lent, part-rest}
-use Rattle.ldpc.specs.Parity.{lowestWrong}
+use Rattle.parity_check.specs.Check.{lowestWrong}
 use Rattle.codeword.specs.Words.{runBits, parityInput}
 use Rattle.codeword.specs.Reading.{wrongPosition}
 use Rattle.word_reader.proofs.wrong_position.Statement.{statement}

@@ -10,7 +10,7 @@ use lib.Dec.{eqb}
 use lib.ListN.{length, getD, drop, set, length-set}
 use lib.Seq.{getD-set-same, getD-set-other}
 use Rattle.lists.specs.PartLaws.{part-rest}
-use Rattle.ldpc.specs.Tables.{tableOk, tableLength}
+use Rattle.parity_table.specs.Tables.{tableOk, tableLength}
 use Rattle.plan.specs.declared.Plan.{Plan}
 use Rattle.plan.specs.Rates.{rowsOf}
 use Rattle.plan.specs.RateLaws.{Rows, rate-rows}

@@ -4,7 +4,7 @@ use Prim.Native.Nat.{ℕ}
 use native.Mathlib.Omega.{arith}
 use borrow.Author.Needs.{needs}
 use lib.ListN.{length-replicate}
-use Rattle.ldpc.specs.Needs.{Rows}
+use Rattle.parity_table.specs.Needs.{Rows}
 use Rattle.plan.specs.Sizes.{slotBits}
 use Rattle.plan.specs.RateLaws.{rows-most}
 use Rattle.test_slots.proofs.anew.put_parity.Statement.{statement}
