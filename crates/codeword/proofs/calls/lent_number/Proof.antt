@@ -1,4 +1,5 @@
 -- `codeword::calls::lent_number`: each way out rewrites with the tests on the way to it.
+use mathlib.Core.Path.{refl}
 use lib.ListN.{length}
 use borrow.Author.Needs.{needs}
 use borrow.Author.Tests.{eq-eqb, ne-eqb}
@@ -20,7 +21,7 @@ returns-3 : tie.Need-returns-3
 unfolding lentNumber
 returns-3 c =
     let n = c .before .before in
-    rw (eq-eqb _ _ (n .before .before .if1 .left), eq-eqb _ _ (n .if2 .left), ← c .before .table-ok .ensures, c .if3 .taken)
+    rw (eq-eqb _ _ (n .before .before .if1 .left), eq-eqb _ _ (n .if2 .left), ← c .before .table-ok .ensures, c .if3 .taken) refl
 
 returns-4 : tie.Need-returns-4
 unfolding lentNumber

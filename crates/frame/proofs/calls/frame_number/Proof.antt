@@ -1,5 +1,5 @@
 -- `frame::frame_number`: each way out rewrites with the tests on the way to it.
-use mathlib.Core.Path.{_≡_, sym, ap, _∙_}
+use mathlib.Core.Path.{_≡_, refl, sym, ap, _∙_}
 use borrow.Author.Needs.{needs}
 use native.Mathlib.Omega.{arith}
 use borrow.Author.Tests.{eq-eqb, ne-eqb}
@@ -58,7 +58,7 @@ returns-5 c =
     let s = t .before in
     let n = s .before in
     let o = n .before in (
-      rw (← opening (o .before .before), eq-eqb _ 0 (o .if1 .left), eq-eqb _ 120 (n .if2 .left), eq-eqb _ _ (t .if3 .left ∙ s .source-length .ensures), eq-eqb _ 673200 (e .if4 .left), ← f .find-tables .ensures .0, c .if5 .taken),
+      rw (← opening (o .before .before), eq-eqb _ 0 (o .if1 .left), eq-eqb _ 120 (n .if2 .left), eq-eqb _ _ (t .if3 .left ∙ s .source-length .ensures), eq-eqb _ 673200 (e .if4 .left), ← f .find-tables .ensures .0, c .if5 .taken) refl,
       λ z. f .find-tables .ensures .1 (c .if5 .taken),
     )
 
