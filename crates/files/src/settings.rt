@@ -1,12 +1,11 @@
 // The first state of every frame, from the first three words: a file with a plan's lines, mask and start.
-use crate::Said;
 use crate::input::open_input;
 use crate::input::take;
 use crate::notes::note;
 use crate::notes::note_refusal;
 use crate::notes::print_word;
-use crate::numbers::number;
 use libc::STDERR_FILENO;
+use numerals::Said;
 use plan::Answer;
 use plan::Plan;
 use plan_text::PlanRead;
@@ -21,7 +20,7 @@ const START: usize = 3;
 fn number_word(place: usize) -> Said {
     let mut word = [0u8; 16];
     let n = os::arg(place, &mut word);
-    number(&word[..n])
+    numerals::number(&word[..n])
 }
 
 // A plan of nothing, which every call refuses.
