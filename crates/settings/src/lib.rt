@@ -1,9 +1,9 @@
 // The first state of every frame, from the first three words: a file with a plan's lines, mask and start.
-use crate::input::open_input;
-use crate::input::take;
-use crate::notes::note;
-use crate::notes::note_refusal;
-use crate::notes::print_word;
+use files::note;
+use files::note_refusal;
+use files::open_input;
+use files::print_word;
+use files::take;
 use libc::STDERR_FILENO;
 use numerals::Said;
 use plan::Answer;
