@@ -1,28 +1,19 @@
-// What the programs on files share: words of the command line, files read and written, the first state of their frames,
-// and lines on standard error.
+// What the programs on files share: files that the words of the command line name, read and written, and lines on standard
+// error.
 mod input;
 mod notes;
-mod numbers;
 mod output;
-mod settings;
 
 pub use input::open_input;
 pub use input::take;
 pub use notes::note;
 pub use notes::note_number;
 pub use notes::note_refusal;
+pub use notes::print_word;
 pub use notes::progress;
-pub use numbers::number;
 pub use output::begin;
 pub use output::discard;
 pub use output::keep;
-pub use settings::first_state;
-
-// The number that a word says, where it says one.
-pub struct Said {
-    pub ok: bool,
-    pub value: u32,
-}
 
 // What was read: how many octets, and whether reading stopped for anything but the end of the file.
 pub struct Taken {

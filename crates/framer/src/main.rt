@@ -71,7 +71,7 @@ fn main() {
         usage();
         return;
     }
-    let opened = files::first_state();
+    let opened = settings::first_state();
     if opened.number != 0 {
         return;
     }

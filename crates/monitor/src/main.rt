@@ -36,7 +36,7 @@ fn main() {
         );
         return;
     }
-    let opened = files::first_state();
+    let opened = settings::first_state();
     if opened.number != 0 {
         return;
     }

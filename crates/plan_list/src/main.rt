@@ -7,6 +7,6 @@ fn main() {
     let mut text = [0u8; 129];
     let n = io::read_full(STDIN_FILENO, &mut text);
     let mut out = [0u8; 512];
-    let length = plan_text::answer(&text[..n], &mut out);
+    let length = run_list::answer(&text[..n], &mut out);
     io::write_all(STDOUT_FILENO, &out[..length]);
 }

@@ -1,9 +1,3 @@
-pub mod Characters
-pub mod Numerals
-pub mod NumeralLaws
 pub mod Reading
 pub mod ReadingLaws
-pub mod Listing
-pub mod ListingLaws
-pub mod Written
 pub mod Needs

@@ -1,67 +1,8 @@
--- What the functions ask of their arguments, and say of their answers besides its equation.
-use mathlib.Core.Path.{_≡_}
-use mathlib.Core.Bool.{true}
-use mathlib.Core.List.{List}
-use Prim.Native.Nat.{ℕ, _+_, _≤_, _<_}
-use lib.ListN.{length, take, getD}
-use Rattle.plan.specs.declared.Plan.{Plan}
-use Rattle.plan.specs.Plans.{planNumber, slotsBefore}
-use Rattle.plan_text.specs.Numerals.{isDigit}
-
--- n digits of a base from a place on, so few that no sum of theirs is too wide
-pub record Digits (base : ℕ) (text : List ℕ) (at n : ℕ) : Type 0 where
-  pub small : base ≤ 16
-  pub few : n ≤ 10
-  pub near : at ≤ 65536
-  pub right : (k : ℕ) → k < n → isDigit base (getD text (at + k) 0) ≡ true
-
--- the first n octets of an area are n
-pub record Taken (n : ℕ) (area : List ℕ) : Type 0 where
-  pub within : n ≤ length area
-  pub counted : n ≡ length (take n area)
-
--- room for n octets from a place on
-pub record Room (n at : ℕ) (area : List ℕ) : Type 0 where
-  pub room : at + n ≤ length area
-
--- a number of at most three digits, with room for it and a space
-pub record Number (n at : ℕ) (area : List ℕ) : Type 0 where
-  pub small : n ≤ 999
-  pub room : at + 4 ≤ length area
+-- What the functions ask of their arguments.
+use Prim.Native.Nat.{ℕ, _≤_}
 
 -- the three fields of a line, all near the text
 pub record Fields (at rate slots : ℕ) : Type 0 where
   pub first : at ≤ 65536
   pub second : rate ≤ 65536
   pub third : slots ≤ 65536
-
--- numbers of at most three digits for a run's line, with room for the line
-pub record RunLine (from to modulation rate at : ℕ) (word area : List ℕ) : Type 0 where
-  pub begins : from ≤ 999
-  pub ends : to ≤ 999
-  pub modulation-small : modulation ≤ 999
-  pub rate-small : rate ≤ 999
-  pub room : at + 16 + length word ≤ length area
-
--- a group of an accepted plan, the slots before it, and room for its lines
-pub record GroupLines (p : Plan) (g passed at : ℕ) (area : List ℕ) : Type 0 where
-  pub plan : planNumber p ≡ 0
-  pub group : g < p .count
-  pub before : passed ≡ slotsBefore p g
-  pub room : at + 44 ≤ length area
-
--- an accepted plan, and room for the lines of all groups
-pub record PlanLines (p : Plan) (at : ℕ) (area : List ℕ) : Type 0 where
-  pub plan : planNumber p ≡ 0
-  pub room : at + 352 ≤ length area
-
--- two sums of slots, and room for their line
-pub record Totals (d u at : ℕ) (area : List ℕ) : Type 0 where
-  pub data-small : d ≤ 999
-  pub dummy-small : u ≤ 999
-  pub room : at + 25 ≤ length area
-
--- an accepted plan, and the area for its list
-pub record ListArea (p : Plan) (area : List ℕ) : Type 0 where
-  pub plan : planNumber p ≡ 0
-  pub long : length area ≡ 512

@@ -13,8 +13,8 @@ use Rattle.plan.specs.Records.{ofColumns, noPlan}
 use Rattle.plan.specs.Plans.{planNumber}
 use Rattle.plan_text.specs.declared.Line.{Line}
 use Rattle.plan_text.specs.declared.PlanRead.{PlanRead}
-use Rattle.plan_text.specs.Characters.{SPACE, LINE-FEED, ZERO}
-use Rattle.plan_text.specs.Numerals.{isDigit, valueOf}
+use Rattle.texts.specs.Characters.{SPACE, LINE-FEED, ZERO}
+use Rattle.numerals.specs.Numerals.{isDigit, valueOf}
 
 -- how many digits stand at a place, counted up to three
 unfoldable pub digitsAt : List ℕ → ℕ → ℕ

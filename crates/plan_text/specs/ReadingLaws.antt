@@ -13,9 +13,9 @@ use lib.Seq.{getD-set-same, getD-set-other}
 use Rattle.lists.specs.Choice.{pick}
 use Rattle.lists.specs.ChoiceLaws.{and-right}
 use Rattle.lists.specs.CountLaws.{table-is, getD-table, length-table}
-use Rattle.plan_text.specs.Characters.{ZERO}
-use Rattle.plan_text.specs.Numerals.{isDigit, valueOf}
-use Rattle.plan_text.specs.NumeralLaws.{value-lt}
+use Rattle.texts.specs.Characters.{ZERO}
+use Rattle.numerals.specs.Numerals.{isDigit, valueOf}
+use Rattle.numerals.specs.NumeralLaws.{value-lt}
 use Rattle.plan_text.specs.Reading.{digitsAt, fieldOk, fieldEnd, fieldStart, lineOk, lineOf, lineStart, column}
 
 -- by the three tests of digits

@@ -3,7 +3,7 @@ use libc::STDOUT_FILENO;
 
 fn show(name: &[u8], text: &[u8]) {
     let mut out = [0u8; 512];
-    let length = plan_text::answer(text, &mut out);
+    let length = run_list::answer(text, &mut out);
     io::write_all(STDOUT_FILENO, name);
     io::write_all(STDOUT_FILENO, b":\n");
     io::write_all(STDOUT_FILENO, &out[..length]);
