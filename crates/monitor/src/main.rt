@@ -6,12 +6,11 @@
 // PACKETS has its name only once it is whole.
 mod frames;
 mod report;
-mod slots;
 
 use libc::STDERR_FILENO;
+use monitor_slots::FRAMES;
+use monitor_slots::Files;
 use plan::FrameState;
-use slots::FRAMES;
-use slots::Files;
 
 const PACKETS: usize = 5;
 
