@@ -1,9 +1,8 @@
 // Whole frames, one after the other, as long as there are packets.
-ghost use Rattle.framer.specs.Needs.{Areas};
-use crate::slots::Files;
-use crate::slots::HEADERS;
-use crate::slots::PACKETS;
-use crate::slots::make_slot;
+use framer_slots::Files;
+use framer_slots::HEADERS;
+use framer_slots::PACKETS;
+use framer_slots::make_slot;
 use plan::FrameState;
 
 // What was made so far: whether all went well, whether the packets have ended, and how many frames, packets and null
@@ -45,21 +44,12 @@ fn stopped(tally: Tally, ok: bool) -> Tally {
 }
 
 // Makes the 120 slots of a frame.
-fn code_frame(
-    opened: FrameState,
-    files: Files,
-    begun: Tally,
-    table: &mut [u16],
-    packets: &mut [u8],
-    coded: &mut [u8],
-) -> Tally
-    requires { ⌜ Areas (now table) (now packets) ⌝ }
-{
+fn code_frame(opened: FrameState, files: Files, begun: Tally) -> Tally {
     let mut tally = begun;
     let mut state = opened;
     let mut k: usize = 0;
     while k < 120 {
-        let step = make_slot(state, files, tally.packets, table, packets, coded);
+        let step = make_slot(state, files, tally.packets);
         if step.ended {
             return stopped(tally, true);
         }
@@ -89,15 +79,7 @@ fn headers_end(files: Files) -> bool {
 }
 
 // Makes frames until the packets end.
-fn code_frames(
-    opened: FrameState,
-    files: Files,
-    table: &mut [u16],
-    packets: &mut [u8],
-    coded: &mut [u8],
-) -> Tally
-    requires { ⌜ Areas (now table) (now packets) ⌝ }
-{
+fn code_frames(opened: FrameState, files: Files) -> Tally {
     let mut tally = Tally {
         ok: true,
         ended: false,
@@ -107,7 +89,7 @@ fn code_frames(
     };
     let mut n: u64 = 0;
     while n < MOST {
-        tally = code_frame(opened, files, tally, table, packets, coded);
+        tally = code_frame(opened, files, tally);
         if tally.ended {
             return tally;
         }
@@ -119,15 +101,10 @@ fn code_frames(
     tally
 }
 
-// The same with the areas as arrays, and then what only the end shows: that there were packets, and no header is left.
-fn finished(
-    opened: FrameState,
-    files: Files,
-    table: &mut [u16; 510],
-    packets: &mut [u8; 5076],
-    coded: &mut [u8; plan::SLOT_OCTETS],
-) -> Tally {
-    let tally = code_frames(opened, files, table, packets, coded);
+// Makes all frames from the state at slot 1, and then looks at what only the end shows: that there were packets, and no
+// header is left.
+pub fn code_all(opened: FrameState, files: Files) -> Tally {
+    let tally = code_frames(opened, files);
     if !tally.ok {
         return tally;
     }
@@ -136,12 +113,4 @@ fn finished(
         return stopped(tally, false);
     }
     stopped(tally, headers_end(files))
-}
-
-// Makes all frames from the state at slot 1.
-pub fn code_all(opened: FrameState, files: Files) -> Tally {
-    let mut table = [0u16; 510];
-    let mut packets = [0u8; 5076];
-    let mut coded = [0u8; plan::SLOT_OCTETS];
-    finished(opened, files, &mut table, &mut packets, &mut coded)
 }

@@ -5,14 +5,13 @@
 // zeros; HEADERS has 22 octets for each data slot, and without it headers are zeros. The parity tables are the published
 // ones. The last frame is filled with null packets. FRAMES has its name only once it is whole.
 mod frames;
-mod slots;
 
+use framer_slots::Files;
+use framer_slots::HEADERS;
+use framer_slots::PACKETS;
 use libc::STDERR_FILENO;
 use libc::STDOUT_FILENO;
 use plan::FrameState;
-use slots::Files;
-use slots::HEADERS;
-use slots::PACKETS;
 
 const FRAMES: usize = 5;
 
@@ -71,7 +70,7 @@ fn main() {
         usage();
         return;
     }
-    let opened = settings::first_state();
+    let opened = command_words::first_state();
     if opened.number != 0 {
         return;
     }

@@ -1,10 +1,9 @@
 // Whole frames, one after the other, as long as the file goes.
-ghost use Rattle.monitor.specs.Needs.{Areas};
 use crate::report;
-use crate::slots::FRAMES;
-use crate::slots::Files;
-use crate::slots::Step;
-use crate::slots::next_slot;
+use monitor_slots::FRAMES;
+use monitor_slots::Files;
+use monitor_slots::Step;
+use monitor_slots::next_slot;
 use plan::FrameState;
 use std::num::wrapping_add_u64;
 
@@ -108,21 +107,12 @@ fn sum(total: Tally, frame: Tally) -> Tally {
 }
 
 // Reads the 120 slots of a frame, and reports those that are refused.
-fn read_frame(
-    opened: FrameState,
-    files: Files,
-    number: u64,
-    table: &mut [u16],
-    packets: &mut [u8],
-    coded: &mut [u8; plan::SLOT_OCTETS],
-) -> Tally
-    requires { ⌜ Areas (now table) (now packets) ⌝ }
-{
+fn read_frame(opened: FrameState, files: Files, number: u64) -> Tally {
     let mut tally = nothing();
     let mut state = opened;
     let mut k: u64 = 0;
     while k < 120 {
-        let step = next_slot(state, files, table, packets, coded);
+        let step = next_slot(state, files);
         if step.ended {
             return stopped(tally, true);
         }
@@ -137,20 +127,12 @@ fn read_frame(
 }
 
 // Reads frames until the file ends.
-fn read_frames(
-    opened: FrameState,
-    files: Files,
-    table: &mut [u16],
-    packets: &mut [u8],
-    coded: &mut [u8; plan::SLOT_OCTETS],
-) -> Tally
-    requires { ⌜ Areas (now table) (now packets) ⌝ }
-{
+fn read_frames(opened: FrameState, files: Files) -> Tally {
     let mut total = nothing();
     let mut n: u64 = 0;
     while n < MOST {
         n += 1;
-        let frame = read_frame(opened, files, n, table, packets, coded);
+        let frame = read_frame(opened, files, n);
         if frame.ended {
             return stopped(total, frame.ok);
         }
@@ -163,15 +145,9 @@ fn read_frames(
     total
 }
 
-// The same with the areas as arrays, and then what only the end shows: that there were frames.
-fn finished(
-    opened: FrameState,
-    files: Files,
-    table: &mut [u16; 510],
-    packets: &mut [u8; 5076],
-    coded: &mut [u8; plan::SLOT_OCTETS],
-) -> Tally {
-    let total = read_frames(opened, files, table, packets, coded);
+// Reads all frames from the state at slot 1, and then looks at what only the end shows: that there were frames.
+pub fn read_all(opened: FrameState, files: Files) -> Tally {
+    let total = read_frames(opened, files);
     if !total.ok {
         return total;
     }
@@ -180,12 +156,4 @@ fn finished(
         return stopped(total, false);
     }
     total
-}
-
-// Reads all frames from the state at slot 1.
-pub fn read_all(opened: FrameState, files: Files) -> Tally {
-    let mut table = [0u16; 510];
-    let mut packets = [0u8; 5076];
-    let mut coded = [0u8; plan::SLOT_OCTETS];
-    finished(opened, files, &mut table, &mut packets, &mut coded)
 }

@@ -6,12 +6,11 @@
 // PACKETS has its name only once it is whole.
 mod frames;
 mod report;
-mod slots;
 
 use libc::STDERR_FILENO;
+use monitor_slots::FRAMES;
+use monitor_slots::Files;
 use plan::FrameState;
-use slots::FRAMES;
-use slots::Files;
 
 const PACKETS: usize = 5;
 
@@ -36,7 +35,7 @@ fn main() {
         );
         return;
     }
-    let opened = settings::first_state();
+    let opened = command_words::first_state();
     if opened.number != 0 {
         return;
     }

@@ -1,14 +1,11 @@
-// Cases of document 01 that are exercised: each line says what a call answered, or whether two areas are the same (1) or
-// not (0).
+// The cases that document 01 works by hand and does not have proved, and 32APSK at 7/9: each line says what a call answered.
 mod labels;
 mod lines;
 mod plans;
 mod slots;
-mod walks;
 
 fn main() {
     plans::run();
     slots::run();
     labels::run();
-    walks::run();
 }

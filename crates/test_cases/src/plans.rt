@@ -5,7 +5,7 @@ use test_samples::MASK;
 use test_samples::START;
 
 // 16APSK 7/9 and QPSK 1/2 in so many slots, of which the first groups are in use.
-pub fn of_counts(count: u16, first: u16, second: u16) -> Plan {
+fn of_counts(count: u16, first: u16, second: u16) -> Plan {
     plan::of_columns(
         count,
         [4, 2, 0, 0, 0, 0, 0, 0],

@@ -1,40 +1,24 @@
 // The lines that are written.
-ghost use Prim.Native.Nat.{_<_};
 use libc::STDOUT_FILENO;
-use plan::Plan;
 
-pub fn field(name: &[u8], value: u64) {
+fn field(name: &[u8], value: u64) {
     io::write_all(STDOUT_FILENO, name);
     io::print_decimal(STDOUT_FILENO, value);
 }
 
-// Two numbers with their names, and the end of the line.
-pub fn end(name: &[u8], value: u64, other: &[u8], next: u64) {
-    field(name, value);
-    field(other, next);
+// The number of a frame's plan, and what a call answered.
+pub fn answer(frame: u16, name: &[u8], answer: u8) {
+    field(b"frame ", frame as u64);
+    field(name, answer as u64);
+}
+
+// The digest of the octets that the calls give back for each slot.
+pub fn answers(octets: &[u8; 120]) {
+    field(b" answers ", test_samples::digest(octets));
+}
+
+// The digest of the octets that a call wrote or left, and the end of the line.
+pub fn end(octets: &[u8]) {
+    field(b" digest ", test_samples::digest(octets));
     io::write_all(STDOUT_FILENO, b"\n");
-}
-
-// A group of a plan.
-fn group(plan: Plan, g: usize)
-    requires { ⌜ g < 8 ⌝ }
-{
-    if g == 0 {
-        field(b"frame ", plan.modulation[g] as u64);
-    } else {
-        field(b", ", plan.modulation[g] as u64);
-    }
-    field(b" ", plan.rate[g] as u64);
-    field(b" ", plan.slots[g] as u64);
-}
-
-// The plan of a frame, at the head of its line; groups that are not in use have no slots.
-pub fn frame(plan: Plan) {
-    let mut g: usize = 0;
-    while g < 8 {
-        if 0 < plan.slots[g] {
-            group(plan, g);
-        }
-        g += 1;
-    }
 }

@@ -27,19 +27,10 @@ pub fn coded(rate: u16, slot: u16, answer: Answer, octets: &[u8]) {
     end(answer, octets);
 }
 
-// What was read: the damage in two parts, the reader's number and that of the lone parity check.
-pub fn read(
-    rate: u16,
-    slot: u16,
-    damage: &[u8],
-    more: &[u8],
-    answer: Answer,
-    check: u8,
-    octets: &[u8],
-) {
+// What was read: the damage, the reader's number and that of the lone parity check.
+pub fn read(rate: u16, slot: u16, damage: &[u8], answer: Answer, check: u8, octets: &[u8]) {
     title(rate, slot);
     io::write_all(STDOUT_FILENO, damage);
-    io::write_all(STDOUT_FILENO, more);
     field(b" read ", answer.number as u64);
     field(b" check ", check as u64);
     end(answer, octets);

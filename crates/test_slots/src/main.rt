@@ -1,6 +1,5 @@
 // Slots at all eleven rates with the published tables: for each rate the first two slots of a frame, coded, read back,
-// and read with one bit damaged, the parity as sent or made anew for the damaged bits.
-mod anew;
+// and read with one bit damaged.
 mod lines;
 mod slots;
 

@@ -1,8 +1,5 @@
 // Slots coded and read.
-ghost use Prim.Native.Nat.{_<_};
-ghost use Rattle.plan.specs.Sizes.{slotOctets};
 ghost use Rattle.test_samples.specs.Areas.{Room};
-use crate::anew;
 use crate::lines;
 use plan::FrameState;
 
@@ -12,44 +9,16 @@ fn read_line(
     state: FrameState,
     table: &[u16],
     damage: &[u8],
-    more: &[u8],
     coded: &[u8; plan::SLOT_OCTETS],
     found: &mut [u8],
 ) {
     test_samples::fill(0, found);
     let answer = slot_reader::read_slot(state, table, coded, found);
     let check = slot_check::check_parity(rate, table, coded);
-    lines::read(rate, state.slot, damage, more, answer, check, found);
+    lines::read(rate, state.slot, damage, answer, check, found);
 }
 
-// Damages the first bit of an octet.
-fn damaged_lines(
-    rate: u16,
-    state: FrameState,
-    table: &[u16],
-    damage: &[u8],
-    octet: usize,
-    coded: [u8; plan::SLOT_OCTETS],
-    found: &mut [u8],
-)
-    requires { ⌜ octet < slotOctets ⌝ }
-{
-    let mut damaged = coded;
-    damaged[octet] = std::num::wrapping_add_u8(damaged[octet], 128);
-    read_line(rate, state, table, damage, b" damaged", &damaged, found);
-    anew::put_parity(rate, table, &mut damaged);
-    read_line(
-        rate,
-        state,
-        table,
-        damage,
-        b" damaged, parity anew",
-        &damaged,
-        found,
-    );
-}
-
-// Damages a bit of each part of a slot.
+// Reads a slot as it was coded and with its first bit turned round.
 fn read_lines(
     rate: u16,
     state: FrameState,
@@ -57,12 +26,10 @@ fn read_lines(
     coded: [u8; plan::SLOT_OCTETS],
     found: &mut [u8],
 ) {
-    let bch = test_samples::source_length(rate);
-    read_line(rate, state, table, b" whole", b"", &coded, found);
-    damaged_lines(rate, state, table, b" header", 0, coded, found);
-    damaged_lines(rate, state, table, b" BCH", bch, coded, found);
-    damaged_lines(rate, state, table, b" stuff", bch + 24, coded, found);
-    damaged_lines(rate, state, table, b" parity", 5609, coded, found);
+    let mut damaged = coded;
+    damaged[0] = std::num::wrapping_add_u8(damaged[0], 128);
+    read_line(rate, state, table, b" whole", &coded, found);
+    read_line(rate, state, table, b" damaged", &damaged, found);
 }
 
 // Codes and reads the state's next slot; the state after it.

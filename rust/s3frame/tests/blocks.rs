@@ -3,7 +3,7 @@ mod common;
 use common::{number, trials, Random};
 use reference::slot::{bits_of, octets_of};
 use reference::tmcc;
-use s3frame::{code_tmcc, read_tmcc, Settings, TMCC_OCTETS, TMCC_RATE, TMCC_SOURCE_OCTETS};
+use s3frame::{code_tmcc, published_table, read_tmcc, Settings, TMCC_OCTETS, TMCC_RATE, TMCC_SOURCE_OCTETS};
 
 /// Codes a block both ways and compares; gives the number and the area.
 fn coded(random: &mut Random, settings: Settings, table: &[u16], source: &[u8]) -> (u32, Vec<u8>) {
@@ -39,26 +39,34 @@ fn damaged(random: &mut Random, table: &[u16], block: &[u8], bits_before: usize,
     octets_of(&bits)
 }
 
-fn block_of(random: &mut Random) {
-    let (settings, table) = (random.settings(15), random.table(TMCC_RATE as usize));
+/// Codes a block with a table, reads it whole and damaged in each way, and codes it with a wrong tail.
+fn block_of(random: &mut Random, table: &[u16]) {
+    let settings = random.settings(15);
     let mut source = random.source(TMCC_SOURCE_OCTETS);
     source[TMCC_SOURCE_OCTETS - 1] &= 0xfc;
-    let (number, block) = coded(random, settings, &table, &source);
+    let (number, block) = coded(random, settings, table, &source);
     assert_eq!(number, 0);
-    assert_eq!(read(random, settings, &table, &block), (0, source.clone()));
-    let wrong = damaged(random, &table, &block, 8 * TMCC_OCTETS, false);
-    assert_eq!(read(random, settings, &table, &wrong).0, 8);
-    let wrong = damaged(random, &table, &block, tmcc::DISPERSED_BITS, true);
-    assert_eq!(read(random, settings, &table, &wrong).0, 9);
+    assert_eq!(read(random, settings, table, &block), (0, source.clone()));
+    let wrong = damaged(random, table, &block, 8 * TMCC_OCTETS, false);
+    assert_eq!(read(random, settings, table, &wrong).0, 8);
+    let wrong = damaged(random, table, &block, tmcc::DISPERSED_BITS, true);
+    assert_eq!(read(random, settings, table, &wrong).0, 9);
     source[TMCC_SOURCE_OCTETS - 1] |= random.pick(&[1, 2, 3]);
-    assert_eq!(coded(random, settings, &table, &source).0, 11);
+    assert_eq!(coded(random, settings, table, &source).0, 11);
 }
 
 #[test]
 fn blocks_of_chance() {
     let mut random = Random::new(21);
     for _ in 0..trials(100) {
-        block_of(&mut random);
+        let table = random.table(TMCC_RATE as usize);
+        block_of(&mut random, &table);
     }
     println!("counted {} blocks", trials(100));
+}
+
+#[test]
+fn a_block_with_the_published_table() {
+    let table = published_table(TMCC_RATE).expect("a known rate");
+    block_of(&mut Random::new(22), &table);
 }

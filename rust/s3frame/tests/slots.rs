@@ -2,7 +2,8 @@
 mod common;
 use common::{code, groups, number, trials, Random};
 use reference::calls::{self, State};
-use s3frame::{FrameState, Plan, Refusal, Settings, SLOT_OCTETS};
+use reference::vectors;
+use s3frame::{published_table, FrameState, Group, Plan, Refusal, Settings, SLOT_OCTETS};
 
 /// The same state for the second implementation.
 fn twin<'a>(groups: &'a [reference::plan::Group], state: &FrameState) -> State<'a> {
@@ -99,6 +100,38 @@ fn every_rate_and_modulation() {
     }
     println!("counted {calls} slot calls");
     assert!(calls >= 2_000);
+}
+
+/// The first bit of the header, of the BCH bits, of the stuff bits or of the last octet is damaged, and the parity is as sent
+/// or made anew: in the first two slots of a frame of a rate, with the published table.
+fn damaged_parts_of(random: &mut Random, rate: u8) {
+    let plan = Plan::new(&[Group::new(5, rate, 120)]).expect("a plan that keeps the rules");
+    let table = published_table(rate.into()).expect("a known rate");
+    let code = code(rate.into(), &table);
+    let mut state = FrameState::open(plan, random.settings(25)).expect("settings that are allowed");
+    for _ in 1..=2 {
+        let source = random.source(s3frame::source_octets(rate.into()).expect("a known rate"));
+        let (slot, after) = coded(random, state, &table, &source);
+        let bch = source.len();
+        for (octet, number_anew) in [(0, 9), (bch, 9), (bch + 24, 10), (SLOT_OCTETS - 1, 0)] {
+            let as_sent = vectors::damaged(&slot, octet);
+            let anew = vectors::with_parity_anew(&code, &as_sent);
+            for (slot, expected, check) in [(as_sent, 8, 8), (anew, number_anew, 0)] {
+                let (number, _, moved) = read(random, state, &table, &slot, bch);
+                assert_eq!((number, moved), (expected, after));
+                assert_eq!(checked(rate.into(), &table, &slot), check);
+            }
+        }
+        state = after;
+    }
+}
+
+#[test]
+fn each_part_damaged() {
+    let mut random = Random::new(4);
+    for rate in 1..=11 {
+        damaged_parts_of(&mut random, rate);
+    }
 }
 
 /// The second implementation's frame, and the one made slot by slot, dummies passed; then both are read slot by slot, some

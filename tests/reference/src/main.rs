@@ -1,7 +1,7 @@
 //! The second implementation as a program that writes lines to compare.
 //!
 //!     reference vectors             the lines that the program test_slots must write
-//!     reference frames              lines of whole frames and TMCC blocks, coded, read back and read when damaged
+//!     reference frames              the lines that the program test_frames must write
 //!     reference bench COUNTS RATES  the work of the program test_bench: slots coded and read, frames coded and read, at
 //!                                   rates 1, 7 and 11 where none is named
 //!     reference stream PLAN MASK START PACKETS FRAMES [HEADERS]

@@ -1,16 +1,14 @@
--- `framer::code_frame`: the slots are counted, and the areas keep their lengths.
-use mathlib.Core.Path.{_≡_}
+-- `framer::code_frame`: the slots are counted.
 use Prim.Native.Nat.{_-_, _≤_}
-use lib.ListN.{length}
 use borrow.Author.Needs.{needs}
 use Rattle.framer.proofs.frames.code_frame.Statement.{statement}
 use Rattle.framer.proofs.frames.code_frame.Tie as tie
 
 abbrev Inv-loop : tie.InvT-loop
-Inv-loop files table₀ packets₀ coded₀ tally₀ state₀ k₀ table packets coded tally state k = (k ≤ 120) × (length table ≡ 510) × (length packets ≡ 5076) × (length coded ≡ length coded₀)
+Inv-loop files tally₀ state₀ k₀ tally state k = k ≤ 120
 
 abbrev μ-loop : tie.MeasureT-loop
-μ-loop files table₀ packets₀ coded₀ tally₀ state₀ k₀ table packets coded tally state k = 120 - k
+μ-loop files tally₀ state₀ k₀ tally state k = 120 - k
 
 pub code-frame-spec : {M : Type 1} → statement M
 code-frame-spec =
@@ -22,20 +20,11 @@ code-frame-spec =
     (λ c κs. search needs)
     (λ c κs. search needs)
     (λ c. search needs)
-    (λ c. search needs)
-    (λ c. search needs)
-    (λ c. search needs)
     (λ c κs. search needs)
-    (λ c. search needs)
-    (λ c. search needs)
-    (λ c. search needs)
     (λ c. search needs)
     (λ c κs. search needs)
     (λ c. search needs)
     (λ c. search needs)
     (λ c. search needs)
     (λ c κs. search needs)
-    (λ c. search needs)
-    (λ c. search needs)
-    (λ c. search needs)
     (λ c. search needs))

@@ -1,16 +1,14 @@
--- `framer::code_frames`: the frames are counted, and the areas keep their lengths.
-use mathlib.Core.Path.{_≡_}
+-- `framer::code_frames`: the frames are counted.
 use Prim.Native.Nat.{_-_, _≤_}
-use lib.ListN.{length}
 use borrow.Author.Needs.{needs}
 use Rattle.framer.proofs.frames.code_frames.Statement.{statement}
 use Rattle.framer.proofs.frames.code_frames.Tie as tie
 
 abbrev Inv-loop : tie.InvT-loop
-Inv-loop opened files table₀ packets₀ coded₀ tally₀ n₀ table packets coded tally n = (n ≤ 18446744073709551615) × (length table ≡ 510) × (length packets ≡ 5076) × (length coded ≡ length coded₀)
+Inv-loop opened files tally₀ n₀ tally n = n ≤ 18446744073709551615
 
 abbrev μ-loop : tie.MeasureT-loop
-μ-loop opened files table₀ packets₀ coded₀ tally₀ n₀ table packets coded tally n = 18446744073709551615 - n
+μ-loop opened files tally₀ n₀ tally n = 18446744073709551615 - n
 
 pub code-frames-spec : {M : Type 1} → statement M
 code-frames-spec =
@@ -22,13 +20,7 @@ code-frames-spec =
     (λ c κs. search needs)
     (λ c. search needs)
     (λ c. search needs)
-    (λ c. search needs)
-    (λ c. search needs)
-    (λ c. search needs)
     (λ c κs. search needs)
-    (λ c. search needs)
-    (λ c. search needs)
-    (λ c. search needs)
     (λ c. search needs)
     (λ c. search needs)
     (λ c. search needs)

@@ -1,16 +1,14 @@
--- `monitor::read_frame`: the slots are counted, and the areas keep their lengths.
-use mathlib.Core.Path.{_≡_}
+-- `monitor::read_frame`: the slots are counted.
 use Prim.Native.Nat.{_-_, _≤_}
-use lib.ListN.{length}
 use borrow.Author.Needs.{needs}
 use Rattle.monitor.proofs.frames.read_frame.Statement.{statement}
 use Rattle.monitor.proofs.frames.read_frame.Tie as tie
 
 abbrev Inv-loop : tie.InvT-loop
-Inv-loop files number table₀ packets₀ coded₀ tally₀ state₀ k₀ table packets coded tally state k = (k ≤ 120) × (length table ≡ 510) × (length packets ≡ 5076) × (length table ≡ length table₀) × (length packets ≡ length packets₀)
+Inv-loop files number tally₀ state₀ k₀ tally state k = k ≤ 120
 
 abbrev μ-loop : tie.MeasureT-loop
-μ-loop files number table₀ packets₀ coded₀ tally₀ state₀ k₀ table packets coded tally state k = 120 - k
+μ-loop files number tally₀ state₀ k₀ tally state k = 120 - k
 
 pub read-frame-spec : {M : Type 1} → statement M
 read-frame-spec =
@@ -23,16 +21,10 @@ read-frame-spec =
     (λ c κs. search needs)
     (λ c κs. search needs)
     (λ c. search needs)
-    (λ c. search needs)
-    (λ c. search needs)
     (λ c κs. search needs)
     (λ c. search needs)
     (λ c. search needs)
-    (λ c. search needs)
-    (λ c. search needs)
     (λ c κs. search needs)
-    (λ c. search needs)
-    (λ c. search needs)
     (λ c. search needs)
     (λ c. search needs)
     (λ c. search needs))

@@ -1,16 +1,14 @@
--- `monitor::read_frames`: the frames are counted, and the areas keep their lengths.
-use mathlib.Core.Path.{_≡_}
+-- `monitor::read_frames`: the frames are counted.
 use Prim.Native.Nat.{_-_, _≤_}
-use lib.ListN.{length}
 use borrow.Author.Needs.{needs}
 use Rattle.monitor.proofs.frames.read_frames.Statement.{statement}
 use Rattle.monitor.proofs.frames.read_frames.Tie as tie
 
 abbrev Inv-loop : tie.InvT-loop
-Inv-loop opened files table₀ packets₀ coded₀ total₀ n₀ table packets coded total n = (n ≤ 18446744073709551615) × (length table ≡ 510) × (length packets ≡ 5076)
+Inv-loop opened files total₀ n₀ total n = n ≤ 18446744073709551615
 
 abbrev μ-loop : tie.MeasureT-loop
-μ-loop opened files table₀ packets₀ coded₀ total₀ n₀ table packets coded total n = 18446744073709551615 - n
+μ-loop opened files total₀ n₀ total n = 18446744073709551615 - n
 
 pub read-frames-spec : {M : Type 1} → statement M
 read-frames-spec =
@@ -24,13 +22,9 @@ read-frames-spec =
     (λ c κs. search needs)
     (λ c κs. search needs)
     (λ c. search needs)
-    (λ c. search needs)
-    (λ c. search needs)
     (λ c κs. search needs)
     (λ c κs. search needs)
     (λ c κs. search needs)
-    (λ c. search needs)
-    (λ c. search needs)
     (λ c. search needs)
     (λ c. search needs)
     (λ c. search needs)

@@ -1,8 +1,8 @@
-// One slot of a frame: read from the file, and its packets written where it is accepted.
+// One slot of a frame that monitor reads: taken from the file, and its packets written where it is accepted.
 ghost use mathlib.Core.Path.{_≡_};
 ghost use Prim.Native.Nat.{_*_};
 ghost use lib.ListN.{length};
-ghost use Rattle.monitor.specs.Needs.{Areas, Slot};
+use plan::Answer;
 use plan::FrameState;
 
 // The word that names the frames.
@@ -71,21 +71,33 @@ fn put_packets(state: FrameState, files: Files, count: usize, packets: &[u8]) ->
     none(state, false)
 }
 
-// Reads a data slot with the published table of the place.
-fn data_slot(
+// Reads packets from a slot with the published table of the place.
+fn read_packets(
     state: FrameState,
-    files: Files,
-    count: usize,
     table: &mut [u16],
-    coded: &[u8],
+    coded: &[u8; plan::SLOT_OCTETS],
     packets: &mut [u8],
-) -> Step
-    requires { ⌜ Slot count (now table) (now packets) ⌝ }
+) -> Answer
+    requires { ⌜ length (now table) ≡ 510 ⌝ }
 {
     let rate = stream::rate_next(state);
     let numbers = published::table_length(rate);
     published::copy_table(rate, &mut table[0..numbers]);
-    let answer = stream::read_packets(state, &table[0..numbers], coded, packets);
+    stream::read_packets(state, &table[0..numbers], coded, packets)
+}
+
+// Reads a data slot of so many packets.
+fn data_slot(
+    state: FrameState,
+    files: Files,
+    count: usize,
+    coded: &[u8; plan::SLOT_OCTETS],
+    packets: &mut [u8],
+) -> Step
+    requires { ⌜ length (now packets) ≡ 188 * count ⌝ }
+{
+    let mut table = [0u16; 510];
+    let answer = read_packets(state, &mut table, coded, packets);
     let next = answer.state;
     if answer.number != 0 {
         return without_packets(next, answer.number, count);
@@ -94,15 +106,7 @@ fn data_slot(
 }
 
 // Reads the slot of a state from its octets.
-fn read_slot(
-    state: FrameState,
-    files: Files,
-    table: &mut [u16],
-    coded: &[u8],
-    packets: &mut [u8],
-) -> Step
-    requires { ⌜ Areas (now table) (now packets) ⌝ }
-{
+fn read_slot(state: FrameState, files: Files, coded: &[u8; plan::SLOT_OCTETS]) -> Step {
     let count = stream::packets_next(state);
     if count == 0 {
         let passed = plan::pass(state);
@@ -110,20 +114,14 @@ fn read_slot(
         return without_packets(next, refusal::DUMMY, 0);
     }
     let end = 188 * count;
-    data_slot(state, files, count, table, coded, &mut packets[0..end])
+    let mut packets = [0u8; 5076];
+    data_slot(state, files, count, coded, &mut packets[0..end])
 }
 
-// Takes the next slot of a frame from the file. The areas hold a table, a slot's packets and a slot.
-pub fn next_slot(
-    state: FrameState,
-    files: Files,
-    table: &mut [u16],
-    packets: &mut [u8],
-    coded: &mut [u8; plan::SLOT_OCTETS],
-) -> Step
-    requires { ⌜ Areas (now table) (now packets) ⌝ }
-{
-    let got = files::take(files.frames, coded);
+// Takes the next slot of a frame from the file.
+pub fn next_slot(state: FrameState, files: Files) -> Step {
+    let mut coded = [0u8; plan::SLOT_OCTETS];
+    let got = files::take(files.frames, &mut coded);
     if got.failed {
         files::note(FRAMES, b"cannot be read");
         return none(state, false);
@@ -137,5 +135,5 @@ pub fn next_slot(
         files::note(FRAMES, b"ends inside a frame");
         return none(state, false);
     }
-    read_slot(state, files, table, coded, packets)
+    read_slot(state, files, &coded)
 }

@@ -1,9 +1,9 @@
--- `framer::first_unsynced`: packets are counted as their octets are passed.
+-- `framer_slots::first_unsynced`: packets are counted as their octets are passed.
 use Prim.Native.Nat.{_-_, _≤_}
 use lib.ListN.{length}
 use borrow.Author.Needs.{needs}
-use Rattle.framer.proofs.slots.first_unsynced.Statement.{statement}
-use Rattle.framer.proofs.slots.first_unsynced.Tie as tie
+use Rattle.framer_slots.proofs.first_unsynced.Statement.{statement}
+use Rattle.framer_slots.proofs.first_unsynced.Tie as tie
 
 abbrev Inv-loop : tie.InvT-loop
 Inv-loop packets at₀ i₀ at i = i ≤ at

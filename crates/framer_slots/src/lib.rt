@@ -1,7 +1,8 @@
-// One slot of a frame: its header and packets read, the slot coded and written.
+// One slot of a frame that framer makes: its header and packets read, the slot coded and written.
 ghost use mathlib.Core.Path.{_≡_};
+ghost use Prim.Native.Nat.{_≤_};
 ghost use lib.ListN.{length};
-ghost use Rattle.framer.specs.Needs.{Areas, Filled};
+use plan::Answer;
 use plan::FrameState;
 
 // The words that name the packets and the headers.
@@ -92,33 +93,47 @@ fn refused(number: u8, passed: u64, packets: &[u8]) {
     }
 }
 
-// Codes packets behind a header with the published table of the place, and writes the slot.
-fn put_slot(
+// Codes packets behind a header with the published table of the place.
+fn code_slot(
     state: FrameState,
-    files: Files,
-    passed: u64,
     table: &mut [u16],
     header: &[u8; 22],
     packets: &[u8],
     coded: &mut [u8],
-) -> Step
+) -> Answer
     requires { ⌜ length (now table) ≡ 510 ⌝ }
 {
     let rate = stream::rate_next(state);
     let numbers = published::table_length(rate);
     published::copy_table(rate, &mut table[0..numbers]);
-    let answer = stream::code_packets(state, &table[0..numbers], header, packets, coded);
+    stream::code_packets(state, &table[0..numbers], header, packets, coded)
+}
+
+// Codes packets behind a header and writes the slot, which took so many octets of packets from the file.
+fn put_slot(
+    state: FrameState,
+    files: Files,
+    passed: u64,
+    octets: usize,
+    header: &[u8; 22],
+    packets: &[u8],
+) -> Step
+    requires { ⌜ octets ≤ length (now packets) ⌝ }
+{
+    let mut table = [0u16; 510];
+    let mut coded = [0u8; plan::SLOT_OCTETS];
+    let answer = code_slot(state, &mut table, header, packets, &mut coded);
     if answer.number != 0 {
         refused(answer.number, passed, packets);
         return none(state, false);
     }
     let next = answer.state;
     Step {
-        ok: written(files, coded),
+        ok: written(files, &coded),
         ended: false,
         state: next,
-        packets: 0,
-        nulls: 0,
+        packets: octets / 188,
+        nulls: (packets.len() - octets) / 188,
     }
 }
 
@@ -128,11 +143,9 @@ fn code_filled(
     files: Files,
     passed: u64,
     octets: usize,
-    table: &mut [u16],
     packets: &mut [u8],
-    coded: &mut [u8],
 ) -> Step
-    requires { ⌜ Filled octets (now table) (now packets) ⌝ }
+    requires { ⌜ octets ≤ length (now packets) ⌝ }
 {
     let end = packets.len();
     stream::fill_null(&mut packets[octets..end]);
@@ -140,28 +153,11 @@ fn code_filled(
     if !read_header(files, &mut header) {
         return none(state, false);
     }
-    let step = put_slot(state, files, passed, table, &header, packets, coded);
-    let next = step.state;
-    Step {
-        ok: step.ok,
-        ended: false,
-        state: next,
-        packets: octets / 188,
-        nulls: (end - octets) / 188,
-    }
+    put_slot(state, files, passed, octets, &header, packets)
 }
 
 // Makes a data slot of what the packets' file has next. A frame that would have no packet of the file is not begun.
-fn fill_slot(
-    state: FrameState,
-    files: Files,
-    passed: u64,
-    table: &mut [u16],
-    packets: &mut [u8],
-    coded: &mut [u8],
-) -> Step
-    requires { ⌜ length (now table) ≡ 510 ⌝ }
-{
+fn fill_slot(state: FrameState, files: Files, passed: u64, packets: &mut [u8]) -> Step {
     let got = files::take(files.packets, packets);
     if got.failed {
         files::note(PACKETS, b"cannot be read");
@@ -177,7 +173,7 @@ fn fill_slot(
             return none(state, true);
         }
     }
-    code_filled(state, files, passed, octets, table, packets, coded)
+    code_filled(state, files, passed, octets, packets)
 }
 
 fn zeros_written(files: Files) -> bool {
@@ -198,22 +194,13 @@ fn pass_slot(state: FrameState, files: Files) -> Step {
     }
 }
 
-// Makes the next slot of a frame, before which so many packets were read. The areas hold a table, a slot's packets and
-// a slot.
-pub fn make_slot(
-    state: FrameState,
-    files: Files,
-    passed: u64,
-    table: &mut [u16],
-    packets: &mut [u8],
-    coded: &mut [u8],
-) -> Step
-    requires { ⌜ Areas (now table) (now packets) ⌝ }
-{
+// Makes the next slot of a frame, before which so many packets were read.
+pub fn make_slot(state: FrameState, files: Files, passed: u64) -> Step {
     let count = stream::packets_next(state);
     if count == 0 {
         return pass_slot(state, files);
     }
     let end = 188 * count;
-    fill_slot(state, files, passed, table, &mut packets[0..end], coded)
+    let mut packets = [0u8; 5076];
+    fill_slot(state, files, passed, &mut packets[0..end])
 }
