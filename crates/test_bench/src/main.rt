@@ -1,7 +1,6 @@
 // Codes and reads slots at rates 1, 7 and 11, as many as the first and the second argument say, and whole frames, as many as
 // the third and the fourth say, or 2 of each: work to be timed. A fifth argument names the one rate that is worked on.
 mod arguments;
-mod frames;
 mod work;
 
 use arguments::number_or;
@@ -25,7 +24,7 @@ fn slots_of(rate: u16) {
 
 fn frames_of(rate: u16) {
     if chosen(rate) {
-        frames::of_rate(rate, number_or(3, COUNT), number_or(4, COUNT));
+        test_bench_frames::of_rate(rate, number_or(3, COUNT), number_or(4, COUNT));
     }
 }
 

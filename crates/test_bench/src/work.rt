@@ -2,6 +2,7 @@
 ghost use Rattle.test_samples.specs.Areas.{Room};
 use libc::STDOUT_FILENO;
 use plan::FrameState;
+use test_samples::field;
 
 // Makes what is coded next depend on the slot before it.
 fn carry(coded: &[u8; plan::SLOT_OCTETS], source: &mut [u8]) {
@@ -42,11 +43,6 @@ fn read_slots(
         n += 1;
     }
     sum
-}
-
-pub fn field(name: &[u8], value: u64) {
-    io::write_all(STDOUT_FILENO, name);
-    io::print_decimal(STDOUT_FILENO, value);
 }
 
 // A line with the digests of the last slot coded and of what was read last.

@@ -1,10 +1,6 @@
 // The lines that are written.
 use libc::STDOUT_FILENO;
-
-fn field(name: &[u8], value: u64) {
-    io::write_all(STDOUT_FILENO, name);
-    io::print_decimal(STDOUT_FILENO, value);
-}
+use test_samples::field;
 
 // The number of a frame's plan, and what a call answered.
 pub fn answer(frame: u16, name: &[u8], answer: u8) {

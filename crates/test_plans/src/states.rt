@@ -4,16 +4,23 @@ use plan::Answer;
 use plan::FrameState;
 use plan::Plan;
 
-fn show(name: &[u8], answer: Answer) {
+// The number, slot and register of an answer, behind what was asked.
+fn answered(answer: Answer) {
     let state = answer.state;
-    io::write_all(STDOUT_FILENO, name);
-    io::write_all(STDOUT_FILENO, b": ");
-    io::print_decimal(STDOUT_FILENO, answer.number as u64);
-    io::write_all(STDOUT_FILENO, b" slot ");
-    io::print_decimal(STDOUT_FILENO, state.slot as u64);
-    io::write_all(STDOUT_FILENO, b" register ");
-    io::print_decimal(STDOUT_FILENO, state.register as u64);
+    field(b": ", answer.number as u64);
+    field(b" slot ", state.slot as u64);
+    field(b" register ", state.register as u64);
     io::write_all(STDOUT_FILENO, b"\n");
+}
+
+fn show(name: &[u8], answer: Answer) {
+    io::write_all(STDOUT_FILENO, name);
+    answered(answer);
+}
+
+fn field(name: &[u8], value: u64) {
+    io::write_all(STDOUT_FILENO, name);
+    io::print_decimal(STDOUT_FILENO, value);
 }
 
 // 16APSK 7/9 in 115 slots, of which 92 carry data, and QPSK 1/2 in 5, of which 2 do.
@@ -32,30 +39,23 @@ fn nine_groups() -> Plan {
     plan
 }
 
+// Opens the example with settings.
+fn opening(name: &[u8], mask: u32, start: u32) {
+    show(name, plan::open(example(), mask, start));
+}
+
 fn openings() {
-    show(b"open", plan::open(example(), 16777216, 1));
+    opening(b"open", 16777216, 1);
     show(
         b"open with nine groups",
         plan::open(nine_groups(), 16777216, 1),
     );
-    show(b"open with mask 2^25", plan::open(example(), 33554432, 1));
-    show(
-        b"open with mask 2^25 - 1",
-        plan::open(example(), 33554431, 1),
-    );
-    show(
-        b"open with mask 2^24 - 1",
-        plan::open(example(), 16777215, 1),
-    );
-    show(b"open with start 0", plan::open(example(), 16777216, 0));
-    show(
-        b"open with start 2^25",
-        plan::open(example(), 16777216, 33554432),
-    );
-    show(
-        b"open with start 2^25 - 1",
-        plan::open(example(), 16777216, 33554431),
-    );
+    opening(b"open with mask 2^25", 33554432, 1);
+    opening(b"open with mask 2^25 - 1", 33554431, 1);
+    opening(b"open with mask 2^24 - 1", 16777215, 1);
+    opening(b"open with start 0", 16777216, 0);
+    opening(b"open with start 2^25", 16777216, 33554432);
+    opening(b"open with start 2^25 - 1", 16777216, 33554431);
 }
 
 // The example's state at a slot, with a register.
@@ -63,29 +63,38 @@ fn state_at(slot: u16, register: u32) -> FrameState {
     plan::state_at(example(), 16777216, 1, slot, register)
 }
 
+fn pass_at(slot: u16) {
+    field(b"pass at slot ", slot as u64);
+    answered(plan::pass(state_at(slot, 5)));
+}
+
+// Data slots and dummies of both groups, their first and last ones, and slots that no frame has.
 fn passes() {
-    show(b"pass at slot 0", plan::pass(state_at(0, 5)));
-    show(b"pass at slot 1", plan::pass(state_at(1, 5)));
-    show(b"pass at slot 92", plan::pass(state_at(92, 5)));
-    show(b"pass at slot 93", plan::pass(state_at(93, 5)));
-    show(b"pass at slot 115", plan::pass(state_at(115, 5)));
-    show(b"pass at slot 116", plan::pass(state_at(116, 5)));
-    show(b"pass at slot 117", plan::pass(state_at(117, 5)));
-    show(b"pass at slot 118", plan::pass(state_at(118, 5)));
-    show(b"pass at slot 120", plan::pass(state_at(120, 5)));
-    show(b"pass at slot 121", plan::pass(state_at(121, 5)));
-    show(b"pass with register 0", plan::pass(state_at(93, 0)));
-    show(
-        b"pass with register 2^25",
-        plan::pass(state_at(93, 33554432)),
-    );
-    show(
-        b"pass at slot 121 with register 0",
-        plan::pass(state_at(121, 0)),
-    );
+    pass_at(0);
+    pass_at(1);
+    pass_at(92);
+    pass_at(93);
+    pass_at(115);
+    pass_at(116);
+    pass_at(117);
+    pass_at(118);
+    pass_at(120);
+    pass_at(121);
+}
+
+// Passes a slot with a register.
+fn passing(name: &[u8], slot: u16, register: u32) {
+    show(name, plan::pass(state_at(slot, register)));
+}
+
+fn wrong_registers() {
+    passing(b"pass with register 0", 93, 0);
+    passing(b"pass with register 2^25", 93, 33554432);
+    passing(b"pass at slot 121 with register 0", 121, 0);
 }
 
 pub fn run() {
     openings();
     passes();
+    wrong_registers();
 }

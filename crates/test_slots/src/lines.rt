@@ -1,11 +1,7 @@
 // The lines that are written.
 use libc::STDOUT_FILENO;
 use plan::Answer;
-
-fn field(name: &[u8], value: u64) {
-    io::write_all(STDOUT_FILENO, name);
-    io::print_decimal(STDOUT_FILENO, value);
-}
+use test_samples::field;
 
 // Which slot the line is about.
 fn title(rate: u16, slot: u16) {

@@ -10,7 +10,8 @@ const SETTINGS: Settings = Settings { mask: MASK, start: START };
 
 /// The state at slot 1 of a frame of these groups.
 fn opened(groups: &[(u8, u8, u8)]) -> FrameState {
-    let groups: Vec<Group> = groups.iter().map(|&(modulation, rate, slots)| Group::new(modulation, rate, slots)).collect();
+    let groups: Vec<Group> =
+        groups.iter().map(|&(modulation, rate, slots)| Group::new(modulation, rate, slots)).collect();
     let plan = Plan::new(&groups).expect("a plan that keeps the rules");
     FrameState::open(plan, SETTINGS).expect("settings that are allowed")
 }

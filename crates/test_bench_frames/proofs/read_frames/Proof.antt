@@ -1,10 +1,10 @@
--- `test_bench::read_frames`: the frames are counted, and the areas keep their lengths.
+-- `test_bench_frames::read_frames`: the frames are counted, and the areas keep their lengths.
 use mathlib.Core.Path.{_≡_}
 use Prim.Native.Nat.{_-_, _≤_}
 use lib.ListN.{length}
 use borrow.Author.Needs.{needs}
-use Rattle.test_bench.proofs.frames.read_frames.Statement.{statement}
-use Rattle.test_bench.proofs.frames.read_frames.Tie as tie
+use Rattle.test_bench_frames.proofs.read_frames.Statement.{statement}
+use Rattle.test_bench_frames.proofs.read_frames.Tie as tie
 
 abbrev Inv-loop : tie.InvT-loop
 Inv-loop rate table count frame found₀ answers₀ n₀ found answers n = (n ≤ count) × (length found ≡ length found₀) × (length answers ≡ length answers₀)

@@ -1,10 +1,10 @@
--- `test_bench::code_frames`: the frames are counted, and the areas keep their lengths.
+-- `test_bench_frames::code_frames`: the frames are counted, and the areas keep their lengths.
 use mathlib.Core.Path.{_≡_}
 use Prim.Native.Nat.{_-_, _≤_}
 use lib.ListN.{length}
 use borrow.Author.Needs.{needs}
-use Rattle.test_bench.proofs.frames.code_frames.Statement.{statement}
-use Rattle.test_bench.proofs.frames.code_frames.Tie as tie
+use Rattle.test_bench_frames.proofs.code_frames.Statement.{statement}
+use Rattle.test_bench_frames.proofs.code_frames.Tie as tie
 
 abbrev Inv-loop : tie.InvT-loop
 Inv-loop rate table count source₀ frame₀ n₀ source frame n = (n ≤ count) × (length source ≡ length source₀) × (length frame ≡ length frame₀)
