@@ -3,6 +3,7 @@ use libc::STDOUT_FILENO;
 use plan::Answer;
 use plan::FrameState;
 use plan::Plan;
+use test_samples::field;
 
 // The number, slot and register of an answer, behind what was asked.
 fn answered(answer: Answer) {
@@ -16,11 +17,6 @@ fn answered(answer: Answer) {
 fn show(name: &[u8], answer: Answer) {
     io::write_all(STDOUT_FILENO, name);
     answered(answer);
-}
-
-fn field(name: &[u8], value: u64) {
-    io::write_all(STDOUT_FILENO, name);
-    io::print_decimal(STDOUT_FILENO, value);
 }
 
 // 16APSK 7/9 in 115 slots, of which 92 carry data, and QPSK 1/2 in 5, of which 2 do.
