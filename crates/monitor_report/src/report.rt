@@ -1,5 +1,5 @@
 // The report on standard output.
-use crate::frames::Tally;
+use crate::tally::Tally;
 use libc::STDOUT_FILENO;
 
 fn field(name: &[u8], value: u64) {
