@@ -6,6 +6,7 @@ mod output;
 
 pub use input::open_input;
 pub use input::take;
+pub use notes::field;
 pub use notes::note;
 pub use notes::note_number;
 pub use notes::note_refusal;

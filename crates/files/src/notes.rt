@@ -1,5 +1,12 @@
-// Lines on standard error.
+// Lines on standard error, and a part of one on standard output.
 use libc::STDERR_FILENO;
+use libc::STDOUT_FILENO;
+
+// A number behind its name, on standard output.
+pub fn field(name: &[u8], value: u64) {
+    io::write_all(STDOUT_FILENO, name);
+    io::print_decimal(STDOUT_FILENO, value);
+}
 
 // Writes a word of the command line.
 pub fn print_word(fd: i32, place: usize) {

@@ -6,6 +6,7 @@
 // ones. The last frame is filled with null packets. FRAMES has its name only once it is whole.
 mod frames;
 
+use files::field;
 use framer_slots::Files;
 use framer_slots::HEADERS;
 use framer_slots::PACKETS;
@@ -14,11 +15,6 @@ use libc::STDOUT_FILENO;
 use plan::FrameState;
 
 const FRAMES: usize = 5;
-
-fn field(name: &[u8], value: u64) {
-    io::write_all(STDOUT_FILENO, name);
-    io::print_decimal(STDOUT_FILENO, value);
-}
 
 // Codes all frames, and keeps them where all went well.
 fn code(state: FrameState, files: Files) {

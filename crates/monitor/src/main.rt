@@ -5,7 +5,6 @@
 // those that its plan carries, those that came out and those of refused slots, counted apart, and a line for all frames.
 // PACKETS has its name only once it is whole.
 mod frames;
-mod report;
 
 use libc::STDERR_FILENO;
 use monitor_slots::FRAMES;
@@ -22,7 +21,7 @@ fn read(state: FrameState, files: Files) {
         return;
     }
     if files::keep(PACKETS, files.packets) {
-        report::all(total);
+        monitor_report::all(total);
     }
 }
 

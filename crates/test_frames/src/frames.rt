@@ -1,8 +1,6 @@
 // Whole frames: coded, read back, and read with a few slots damaged.
 ghost use Rattle.test_frames.specs.Areas.{Room};
-use crate::areas;
 use crate::lines;
-use crate::plans;
 use test_samples::MASK;
 use test_samples::START;
 
@@ -10,7 +8,7 @@ use test_samples::START;
 fn code_line(number: u16, tables: &[u16], source: &mut [u8], frame: &mut [u8]) {
     test_samples::fill(1000 + (number as u64), source);
     test_samples::fill(7, frame);
-    let plan = plans::of(number);
+    let plan = test_samples::numbered_plan(number);
     let answer = frame_coder::code_frame(plan, MASK, START, tables, source, frame);
     lines::answer(number, b" coded ", answer);
     lines::end(frame);
@@ -20,18 +18,25 @@ fn code_line(number: u16, tables: &[u16], source: &mut [u8], frame: &mut [u8]) {
 fn read_line(number: u16, name: &[u8], tables: &[u16], frame: &[u8], source: &mut [u8]) {
     let mut answers = [11u8; 120];
     test_samples::fill(9, source);
-    let plan = plans::of(number);
+    let plan = test_samples::numbered_plan(number);
     let answer = frame_reader::read_frame(plan, MASK, START, tables, frame, source, &mut answers);
     lines::answer(number, name, answer);
     lines::answers(&answers);
     lines::end(source);
 }
 
+// Turns the first bit of an octet round.
+fn damage_octet(octet: usize, area: &mut [u8]) {
+    if octet < area.len() {
+        area[octet] = std::num::wrapping_add_u8(area[octet], 128);
+    }
+}
+
 // Turns the first bits of slots 1, 50 and 120 round.
 fn damage(frame: &mut [u8]) {
-    areas::damage(0, frame);
-    areas::damage(274890, frame);
-    areas::damage(667590, frame);
+    damage_octet(0, frame);
+    damage_octet(274890, frame);
+    damage_octet(667590, frame);
 }
 
 fn frame_lines(number: u16, tables: &[u16], source: &mut [u8], frame: &mut [u8]) {
@@ -45,8 +50,8 @@ fn frame_lines(number: u16, tables: &[u16], source: &mut [u8], frame: &mut [u8])
 fn with_areas(number: u16, tables: &mut [u16], source: &mut [u8], frame: &mut [u8])
     requires { ⌜ Room (now tables) (now source) ⌝ }
 {
-    let numbers = areas::put_tables(plans::of(number), tables);
-    let octets = plans::octets(number);
+    let numbers = test_samples::put_tables(test_samples::numbered_plan(number), tables);
+    let octets = test_samples::plan_octets(number);
     frame_lines(number, &tables[0..numbers], &mut source[0..octets], frame);
 }
 

@@ -1,9 +1,7 @@
 // Whole frames with the published tables: coded, read back, and read with a few bits damaged. Every rate has a frame, and
 // so have plans with dummies.
-mod areas;
 mod frames;
 mod lines;
-mod plans;
 
 fn main() {
     let mut number: u16 = 1;

@@ -1,13 +1,19 @@
-// What the programs that try slots share: a frame of one rate, octets to code, a digest, and a part of a line.
+// What the programs that try slots and frames share: plans and their published tables, octets to code, a digest, and a
+// part of a line.
 mod lines;
 mod octets;
+mod plans;
 mod rates;
+mod tables;
 
 pub use lines::field;
 pub use octets::digest;
 pub use octets::fill;
+pub use plans::numbered_plan;
+pub use plans::plan_octets;
 pub use rates::MASK;
 pub use rates::START;
 pub use rates::opened;
 pub use rates::plan_of;
 pub use rates::source_length;
+pub use tables::put_tables;

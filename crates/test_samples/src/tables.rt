@@ -1,4 +1,4 @@
-// What is put into areas before a call.
+// The published tables of a plan.
 ghost use mathlib.Core.Path.{_≡_};
 ghost use Prim.Native.Nat.{_≤_};
 ghost use lib.ListN.{length};
@@ -20,11 +20,4 @@ pub fn put_tables(plan: Plan, area: &mut [u16]) -> usize
         g += 1;
     }
     at
-}
-
-// Turns the first bit of an octet round.
-pub fn damage(octet: usize, area: &mut [u8]) {
-    if octet < area.len() {
-        area[octet] = std::num::wrapping_add_u8(area[octet], 128);
-    }
 }

@@ -1,10 +1,10 @@
--- `test_frames::put_tables`: no table is longer than 510 numbers.
+-- `test_samples::put_tables`: no table is longer than 510 numbers.
 use mathlib.Core.Path.{_≡_}
 use Prim.Native.Nat.{_-_, _*_, _≤_}
 use lib.ListN.{length}
 use borrow.Author.Needs.{needs}
-use Rattle.test_frames.proofs.areas.put_tables.Statement.{statement}
-use Rattle.test_frames.proofs.areas.put_tables.Tie as tie
+use Rattle.test_samples.proofs.tables.put_tables.Statement.{statement}
+use Rattle.test_samples.proofs.tables.put_tables.Tie as tie
 
 abbrev Inv-loop : tie.InvT-loop
 Inv-loop area₀ plan at₀ g₀ area at g = (length area ≡ 4080) × (at ≤ 510 * g) × (g ≤ 8)

@@ -1,11 +1,7 @@
 // The report on standard output.
-use crate::frames::Tally;
+use crate::tally::Tally;
+use files::field;
 use libc::STDOUT_FILENO;
-
-fn field(name: &[u8], value: u64) {
-    io::write_all(STDOUT_FILENO, name);
-    io::print_decimal(STDOUT_FILENO, value);
-}
 
 // Slots by answer, and packets: those that the plan carries, those that were written, those of refused slots, each
 // counted for itself, and the null packets among those written.

@@ -1,5 +1,7 @@
-// The plans of the frames, by number.
+// The plans of whole frames, by number.
 ghost use Prim.Native.Nat.{_≤_};
+use crate::rates::plan_of;
+use crate::rates::source_length;
 use plan::Plan;
 
 // 12: the plan that document 01 works out.
@@ -33,24 +35,24 @@ fn most_dummies() -> Plan {
 }
 
 // The plan of a number: below 12 the rate of a frame of one group without dummies.
-pub fn of(number: u16) -> Plan {
+pub fn numbered_plan(number: u16) -> Plan {
     match number {
         12 => worked(),
         13 => eight_groups(),
         14 => most_dummies(),
-        _ => test_samples::plan_of(number),
+        _ => plan_of(number),
     }
 }
 
 // The header and data octets of its data slots. From 12 on they are added up by hand, data slots times octets of a slot:
 // 92 * 4323 + 2 * 2827; 20 * 5071 + 34 * 4323 + 12 * 3762 + 10 * 1892 + 4 * 2827 + 2 * 4697; 24 * 2827.
-pub fn octets(number: u16) -> usize
+pub fn plan_octets(number: u16) -> usize
     ensures { λ r. ⌜ r ≤ 608520 ⌝ }
 {
     match number {
         12 => 403370,
         13 => 333168,
         14 => 67848,
-        _ => 120 * test_samples::source_length(number),
+        _ => 120 * source_length(number),
     }
 }
