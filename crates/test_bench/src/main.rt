@@ -1,7 +1,6 @@
 // Codes and reads slots at rates 1, 7 and 11, as many as the first and the second argument say, and whole frames, as many as
 // the third and the fourth say, or 2 of each: work to be timed. A fifth argument names the one rate that is worked on.
 mod arguments;
-mod work;
 
 use arguments::number_or;
 
@@ -18,7 +17,7 @@ fn chosen(rate: u16) -> bool {
 
 fn slots_of(rate: u16) {
     if chosen(rate) {
-        work::of_rate(rate, number_or(1, COUNT), number_or(2, COUNT));
+        test_bench_slots::of_rate(rate, number_or(1, COUNT), number_or(2, COUNT));
     }
 }
 

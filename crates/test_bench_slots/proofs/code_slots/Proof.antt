@@ -1,10 +1,10 @@
--- `test_bench::code_slots`: the slots are counted, and the octets keep their length.
+-- `test_bench_slots::code_slots`: the slots are counted, and the octets keep their length.
 use mathlib.Core.Path.{_≡_}
 use Prim.Native.Nat.{_-_, _≤_}
 use lib.ListN.{length}
 use borrow.Author.Needs.{needs}
-use Rattle.test_bench.proofs.work.code_slots.Statement.{statement}
-use Rattle.test_bench.proofs.work.code_slots.Tie as tie
+use Rattle.test_bench_slots.proofs.code_slots.Statement.{statement}
+use Rattle.test_bench_slots.proofs.code_slots.Tie as tie
 
 abbrev Inv-loop : tie.InvT-loop
 Inv-loop state table count source₀ coded₀ n₀ source coded n = (n ≤ count) × (length source ≡ length source₀)
