@@ -148,7 +148,7 @@ fn code_filled(
     requires { ⌜ octets ≤ length (now packets) ⌝ }
 {
     let end = packets.len();
-    stream::fill_null(&mut packets[octets..end]);
+    null_packets::fill_null(&mut packets[octets..end]);
     let mut header = [0u8; 22];
     if !read_header(files, &mut header) {
         return none(state, false);

@@ -64,7 +64,7 @@ fn put_packets(state: FrameState, files: Files, count: usize, packets: &[u8]) ->
             state,
             planned: count,
             written: count,
-            nulls: stream::count_null(count, packets),
+            nulls: null_packets::count_null(count, packets),
         };
     }
     os::fail(b"monitor: writing packets");

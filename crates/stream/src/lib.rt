@@ -1,12 +1,9 @@
-// Packets of a stream and the slots that carry them: a slot coded from its packets and read into them, and null packets.
+// Packets of a stream and the slots that carry them: a slot coded from its packets and read into them.
 mod coding;
-mod nulls;
 mod places;
 mod reading;
 
 pub use coding::code_packets;
-pub use nulls::count_null;
-pub use nulls::fill_null;
 pub use places::packets_next;
 pub use places::rate_next;
 pub use reading::read_packets;

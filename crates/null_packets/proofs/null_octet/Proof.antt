@@ -1,10 +1,10 @@
--- `stream::null_octet`: the head's four octets, and 0xFF behind them.
+-- `null_packets::null_octet`: the head's four octets, and 0xFF behind them.
 use mathlib.Core.Path.{sym}
 use native.Mathlib.Omega.{arith}
 use borrow.Author.Needs.{needs}
-use Rattle.stream.specs.NullLaws.{head-octet, later-octet}
-use Rattle.stream.proofs.nulls.null_octet.Statement.{statement}
-use Rattle.stream.proofs.nulls.null_octet.Tie as tie
+use Rattle.null_packets.specs.NullLaws.{head-octet, later-octet}
+use Rattle.null_packets.proofs.null_octet.Statement.{statement}
+use Rattle.null_packets.proofs.null_octet.Tie as tie
 
 returns : tie.Need-returns
 returns c = head-octet (c .before .args .at) (search needs)

@@ -1,4 +1,4 @@
--- `stream::fill_null`: the area is filled octet by octet, with the place in a packet beside it.
+-- `null_packets::fill_null`: the area is filled octet by octet, with the place in a packet beside it.
 use mathlib.Core.Path.{_≡_, sym, ap, _∙_}
 use mathlib.Core.List.{List}
 use Prim.Native.Nat.{ℕ, _-_, _%_}
@@ -7,10 +7,10 @@ use borrow.Author.Needs.{needs}
 use lib.ListN.{length}
 use Rattle.lists.specs.Filling.{Filling}
 use Rattle.lists.specs.FillingLaws.{filling-none, filling-more, filling-all}
-use Rattle.stream.specs.Nulls.{nullOctet, nullOctets}
-use Rattle.stream.specs.NullLaws.{length-nullOctets, nullOctets-at}
-use Rattle.stream.proofs.nulls.fill_null.Statement.{statement}
-use Rattle.stream.proofs.nulls.fill_null.Tie as tie
+use Rattle.null_packets.specs.Nulls.{nullOctet, nullOctets}
+use Rattle.null_packets.specs.NullLaws.{length-nullOctets, nullOctets-at}
+use Rattle.null_packets.proofs.fill_null.Statement.{statement}
+use Rattle.null_packets.proofs.fill_null.Tie as tie
 
 record Inv (found packets : List ℕ) (i at : ℕ) : Type 0 where
   place : at ≡ i % 188

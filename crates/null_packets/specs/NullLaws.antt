@@ -7,7 +7,7 @@ use native.Mathlib.Omega.{arith}
 use lib.ListN.{length, getD, List·getD-eq-default}
 use Rattle.lists.specs.Choice.{pick}
 use Rattle.lists.specs.CountLaws.{sum-none, sum-more, length-table, getD-table}
-use Rattle.stream.specs.Nulls.{nullOctet, nullOctets, isNullAt, nullsIn}
+use Rattle.null_packets.specs.Nulls.{nullOctet, nullOctets, isNullAt, nullsIn}
 
 pub length-nullOctets : (n : ℕ) → length (nullOctets n) ≡ n
 unfolding nullOctets

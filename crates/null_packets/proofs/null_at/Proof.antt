@@ -1,8 +1,8 @@
--- `stream::null_at`: the two tests of the PID.
+-- `null_packets::null_at`: the two tests of the PID.
 use borrow.Author.Needs.{needs}
 use borrow.Author.Tests.{eq-eqb, ne-eqb}
-use Rattle.stream.proofs.nulls.null_at.Statement.{statement}
-use Rattle.stream.proofs.nulls.null_at.Tie as tie
+use Rattle.null_packets.proofs.null_at.Statement.{statement}
+use Rattle.null_packets.proofs.null_at.Tie as tie
 
 returns : tie.Need-returns
 returns c = rw (eq-eqb _ 31 (c .before .before .if1 .taken), eq-eqb _ 255 (c .if2 .taken))

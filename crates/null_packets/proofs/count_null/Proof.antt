@@ -1,12 +1,12 @@
--- `stream::count_null`: the null packets among those passed are counted.
+-- `null_packets::count_null`: the null packets among those passed are counted.
 use mathlib.Core.Path.{_≡_, sym, ap, _∙_}
 use mathlib.Core.List.{List}
 use Prim.Native.Nat.{ℕ, _-_, _*_, _≤_}
 use native.Mathlib.Omega.{arith}
-use Rattle.stream.specs.Nulls.{isNullAt, nullsIn}
-use Rattle.stream.specs.NullLaws.{nulls-none, nulls-more, pick-few}
-use Rattle.stream.proofs.nulls.count_null.Statement.{statement}
-use Rattle.stream.proofs.nulls.count_null.Tie as tie
+use Rattle.null_packets.specs.Nulls.{isNullAt, nullsIn}
+use Rattle.null_packets.specs.NullLaws.{nulls-none, nulls-more, pick-few}
+use Rattle.null_packets.proofs.count_null.Statement.{statement}
+use Rattle.null_packets.proofs.count_null.Tie as tie
 
 record Inv (count : ℕ) (packets : List ℕ) (found from i : ℕ) : Type 0 where
   here : i ≤ count

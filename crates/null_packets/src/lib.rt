@@ -3,8 +3,8 @@ ghost use mathlib.Core.Path.{_≡_};
 ghost use Prim.Native.Nat.{_+_, _*_, _%_, _≤_, _<_};
 ghost use lib.ListN.{length};
 ghost use Rattle.lists.specs.Choice.{pick};
-ghost use Rattle.stream.specs.Nulls.{nullOctets, isNullAt, nullsIn};
-ghost use Rattle.stream.specs.Nulls.{nullOctet as Nulls·nullOctet};
+ghost use Rattle.null_packets.specs.Nulls.{nullOctets, isNullAt, nullsIn};
+ghost use Rattle.null_packets.specs.Nulls.{nullOctet as Nulls·nullOctet};
 
 // The first octets of a null packet: sync, the PID 0x1FFF, and payload alone. The others are 0xFF.
 const HEAD: [u8; 4] = [0x47, 0x1F, 0xFF, 0x10];

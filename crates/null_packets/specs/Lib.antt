@@ -1,0 +1,2 @@
+pub mod NullLaws
+pub mod Nulls
