@@ -61,7 +61,7 @@ checksNumber F wrong u = andThen (parityNumber F wrong) (pick (bchRight F u) 0 B
 unfoldable pub wordNumber : Shape → List ℕ → ℕ → ℕ → List ℕ → ℕ
 wordNumber F t mask r c = checksNumber F (wrongPosition F t c) (takenOff F mask r c)
 
--- a word of which both checks hold
+-- a word that has neither 8, "some LDPC parity bit is wrong", nor 9, "BCH bits wrong after dispersal is taken off"
 pub record Good (F : Shape) (t : List ℕ) (mask r : ℕ) (c : List ℕ) : Type 0 where
   pub parity : parityIn F c ≡ parityOf (F .rows) t (parityInput F (runIn F c))
   pub bch : bchIn F (takenOff F mask r c) ≡ bchBits (messageIn F (takenOff F mask r c))

@@ -9,6 +9,7 @@ use lib.Dec.{leb}
 use lib.ListN.{length}
 use Rattle.lists.specs.Count.{every}
 use Rattle.lists.specs.CountLaws.{every-at}
+use Rattle.refusal.specs.Numbers.{PLAN, LENGTH}
 use Rattle.parity_table.specs.Tables.{rowStart, addressOk, rowOk, rowsOk, tableOk}
 use Rattle.published.specs.Printed.{rate1, rate2, rate3, rate4, rate5, rate6, rate7, rate8, rate9, rate10, rate11}
 use Rattle.published.specs.Published.{printed, form, nth, tableAt, tableOf, copyNumber}
@@ -34,11 +35,11 @@ pub table-short : (rate : ℕ) → 1 ≤ rate → rate ≤ 11 → length (tableO
 table-short rate l h = leb-true (length (tableOf rate)) 510 (every-at 11 (λ k. leb (length (tableAt k)) 510) all-short (rate - 1) (omega arith))
 
 module _ (rate : ℕ) (found : List ℕ) where
-  pub number-unknown : rateOk rate ≡ false → copyNumber rate found ≡ 1
+  pub number-unknown : rateOk rate ≡ false → copyNumber rate found ≡ PLAN
   unfolding copyNumber
   number-unknown h = rw h
 
-  pub number-long : rateOk rate ≡ true → (length found ≡ length (tableOf rate) → ⊥) → copyNumber rate found ≡ 4
+  pub number-long : rateOk rate ≡ true → (length found ≡ length (tableOf rate) → ⊥) → copyNumber rate found ≡ LENGTH
   unfolding copyNumber
   number-long h n = rw (h, ne-eqb (length found) (length (tableOf rate)) n)
 

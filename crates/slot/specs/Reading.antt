@@ -29,7 +29,8 @@ unfoldable pub receivedNumber : ℕ → List ℕ → ℕ → ℕ → List ℕ �
 receivedNumber R t mask r c =
     andThen (wordNumber (slotShape R) t mask r c) (pick (stuffRight R (takenOff (slotShape R) mask r c)) 0 STUFF)
 
--- a slot of which all three checks hold: parity and BCH bits as a codeword's, and the stuff bits ones
+-- a slot that has none of 8, 9 and 10, "stuff bits not all ones after dispersal is taken off": parity and BCH bits are right as
+-- a codeword's, and the stuff bits are ones
 pub record GoodSlot (R : ℕ) (t : List ℕ) (mask r : ℕ) (c : List ℕ) : Type 0 where
   pub word : Good (slotShape R) t mask r c
   pub stuff : tailIn (slotShape R) (takenOff (slotShape R) mask r c) ≡ stuffBits

@@ -1,9 +1,9 @@
 // Whole frames of one rate, coded and read again and again.
 ghost use Rattle.test_bench_frames.specs.Areas.{Room};
+use files::field;
 use libc::STDOUT_FILENO;
 use test_samples::MASK;
 use test_samples::START;
-use test_samples::field;
 
 // Makes what is coded next depend on the frame before it.
 fn carry(frame: &[u8], source: &mut [u8]) {

@@ -1,12 +1,9 @@
-// What the programs that try slots and frames share: plans and their published tables, octets to code, a digest, and a
-// part of a line.
-mod lines;
+// What the programs that try slots and frames share: plans and their published tables, octets to code, and a digest.
 mod octets;
 mod plans;
 mod rates;
 mod tables;
 
-pub use lines::field;
 pub use octets::digest;
 pub use octets::fill;
 pub use plans::numbered_plan;

@@ -1,5 +1,5 @@
 // Whole frames: coded, read back, and read with a few slots damaged.
-ghost use Rattle.test_frames.specs.Areas.{Room};
+ghost use Rattle.test_frame_lines.specs.Areas.{Room};
 use crate::lines;
 use test_samples::MASK;
 use test_samples::START;
