@@ -30,7 +30,7 @@ unfolding nextNumber
 next-two next h = eqb-true (length next) 2 (not-refused (eqb (length next) 2) LENGTH (omega arith) h)
 
 -- a refusal goes through what is tested behind it
-onward : (a b d : ℕ) → a ≡ b → (b ≡ 0 → ⊥) → andThen a d ≡ b
+pub onward : (a b d : ℕ) → a ≡ b → (b ≡ 0 → ⊥) → andThen a d ≡ b
 onward a b d e n = then-first a d (λ z. n (sym e ∙ z)) ∙ e
 
 -- a state's own refusal is that of each call
@@ -58,7 +58,7 @@ module _ (p : Plan) (mask start x register : ℕ) (h : 120 < x) where
   full-refused z = omega (arith, ready (stateAt p mask start x register) z .left)
 
 -- a call that begins with the state's own refusal answers for the slot number as it was handed over
-place-given : (f : FrameState → ℕ) (g : FrameState → List ℕ)
+pub place-given : (f : FrameState → ℕ) (g : FrameState → List ℕ)
     → ((s : FrameState) → (stateNumber s ≡ 0 → ⊥) → f s ≡ stateNumber s)
     → (p : Plan) (mask start slot register : ℕ) (found : List ℕ) (r : ℕ) (left : List ℕ)
     → Answered (f (stateAt p mask start (narrowed slot) register)) (g (stateAt p mask start (narrowed slot) register)) found r left
@@ -90,16 +90,16 @@ moved false s r found = rw (eq-eqb (s .slot) (s .slot) refl)
 
 -- where nothing before the areas of a slot call refuses it, the number is that of the call behind it
 module _ (s : FrameState) (t source coded next : List ℕ) (h : andThen (dataNumber s) (nextNumber next) ≡ 0) where
-  slot-is : slotCall s t source coded next ≡ slotNumber s t source coded
+  pub slot-is : slotCall s t source coded next ≡ slotNumber s t source coded
   unfolding slotCall slotNumber
   slot-is = then-next _ _ h ∙ sym (then-next _ _ (then-zero (dataNumber s) _ h .0))
 
-  read-is : readCall s t coded source next ≡ readNumber s t coded source
+  pub read-is : readCall s t coded source next ≡ readNumber s t coded source
   unfolding readCall readNumber
   read-is = rw slot-is
 
   -- the place that a call leaves, from the state a that it hands back
-  place-left : (a : FrameState) (left : List ℕ)
+  pub place-left : (a : FrameState) (left : List ℕ)
       → a ≡ pick (eqb (slotNumber s t source coded) 0) (nextState s) s
       → left ≡ pick (eqb (a .slot) (s .slot)) next (placed a)
       → left ≡ pick (eqb (slotCall s t source coded next) 0) (placed (nextState s)) next

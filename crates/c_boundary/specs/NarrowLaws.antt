@@ -6,14 +6,14 @@ use Prim.Native.Nat.{ℕ, _≤_, _<_}
 use native.Mathlib.Omega.{arith}
 use borrow.Author.Tests.{leb-false, lt-leb, le-leb, ne-eqb}
 use lib.Dec.{leb}
-use lib.ListN.{length}
+use lib.ListN.{length, List·getD-eq-default}
 use Rattle.lists.specs.Choice.{pick}
 use Rattle.refusal.specs.Answers.{Answered}
 use Rattle.refusal.specs.Numbers.{PLAN}
-use Rattle.plan.specs.Rates.{rateOk, modulationOk, packetsOf}
+use Rattle.plan.specs.Rates.{rateOk, modulationOk, rowCounts, rowsOf, dataBitsOf, dataOctetsOf, packetsOf}
 use Rattle.slot.specs.Calls.{formNumber, checkNumber}
 use Rattle.packets.specs.Packets.{packed, unpacked, sizeNumber, packNumber, unpackNumber}
-use Rattle.published.specs.Published.{tableOf, copyNumber}
+use Rattle.published.specs.Published.{tableOf, lengthOf, copyNumber}
 use Rattle.symbols.specs.Labels.{labelsOfSlot, slotOfLabels, slotNumber, slotOfLabelsNumber}
 use Rattle.c_boundary.specs.Narrow.{narrowed}
 
@@ -84,6 +84,17 @@ unfolding copyNumber
 table-given rate found r left =
     as-given (λ x. Answered (copyNumber x found) (tableOf x) found r left) rate
     (λ h. both-unknown _ _ _ _ _ _ _ refl (rw (unknown-rate rate h)))
+
+-- what a rate has: nothing where it is unknown
+pub entries-given : (rate : ℕ) → lengthOf (narrowed rate) ≡ lengthOf rate
+unfolding lengthOf
+entries-given rate = as-given (λ x. lengthOf (narrowed rate) ≡ lengthOf x) rate (λ h e. e ∙ rw (unknown-rate rate h)) refl
+
+pub packets-given : (rate : ℕ) → packetsOf (narrowed rate) ≡ packetsOf rate
+unfolding packetsOf dataOctetsOf dataBitsOf rowsOf
+packets-given rate =
+    as-given (λ x. packetsOf (narrowed rate) ≡ packetsOf x) rate
+    (λ h e. e ∙ rw (List·getD-eq-default rowCounts 0 {n = rate} (omega arith))) refl
 
 labels-unknown : (m rate octets labels : ℕ) → (modulationOk m && rateOk rate) ≡ false → slotNumber m rate octets labels ≡ PLAN
 unfolding slotNumber

@@ -6,6 +6,7 @@ mod tables;
 
 pub use calls::frame_number;
 pub use sources::slot_octets;
+pub use sources::source_length;
 
 // The slots of a frame.
 pub const SLOTS: usize = 120;

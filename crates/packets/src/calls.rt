@@ -24,7 +24,8 @@ fn size_number(rate: u16, packets: usize, octets: usize) -> u8
     0
 }
 
-fn pack_number(rate: u16, packets: &[u8], room: usize) -> u8
+// The refusal of packing, or 0, with the length of the area for the data octets.
+pub fn pack_number(rate: u16, packets: &[u8], room: usize) -> u8
     ensures { λ r. ⌜ r ≡ packNumber rate (now (packets .entry)) room ⌝ }
 {
     let number = size_number(rate, packets.len(), room);

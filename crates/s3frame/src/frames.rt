@@ -5,7 +5,16 @@ ghost use lib.ListN.{length};
 ghost use Rattle.lists.specs.Choice.{pick};
 ghost use Rattle.refusal.specs.Answers.{Answered};
 ghost use Rattle.frame.specs.Frames.{frameOf, frameNumber, answersOf, sourcesOf, readFrameNumber};
+ghost use Rattle.lookup.specs.Lookups.{sourceOctets};
 ghost use Rattle.c_boundary.specs.Plans.{planOf};
+
+// How many header and data octets all data slots of a plan have; 0 where the plan is refused.
+#[no_mangle]
+pub extern "C" fn s3_source_octets(plan: &[u8]) -> u64
+    ensures { λ r. ⌜ r ≡ sourceOctets (planOf (now (plan .entry))) ⌝ }
+{
+    lookup::source_octets(c_boundary::plan_of(plan)) as u64
+}
 
 // Codes a whole frame; a refusal leaves the frame as it was.
 #[no_mangle]

@@ -1,8 +1,8 @@
-// Packets into data octets and back, and the published parity tables.
+// Packets into data octets and back.
+ghost use mathlib.Core.Path.{_≡_};
 ghost use lib.ListN.{length};
 ghost use Rattle.refusal.specs.Answers.{Answered};
 ghost use Rattle.plan.specs.Rates.{packetsOf};
-ghost use Rattle.published.specs.Published.{tableOf, copyNumber};
 ghost use Rattle.packets.specs.Packets.{packed, unpacked, packNumber, unpackNumber};
 
 // Packs one slot's packets into data octets; a refusal leaves the octets as they were.
@@ -21,10 +21,10 @@ pub extern "C" fn s3_unpack(rate: u32, octets: &[u8], packets: &mut [u8]) -> u32
     c_boundary::word(packets::unpack(c_boundary::narrow(rate), octets, packets))
 }
 
-// Copies the published parity table of a rate; a refusal leaves the area as it was.
+// How many packets a slot of a rate carries; 0 for an unknown rate.
 #[no_mangle]
-pub extern "C" fn s3_published_table(rate: u32, table: &mut [u16]) -> u32
-    ensures { λ r. ⌜ Answered (copyNumber rate (now (table .entry))) (tableOf rate) (now (table .entry)) r (now (table .exit)) ⌝ }
+pub extern "C" fn s3_packets_of(rate: u32) -> u32
+    ensures { λ r. ⌜ r ≡ packetsOf rate ⌝ }
 {
-    c_boundary::word(published::copy_table(c_boundary::narrow(rate), table))
+    plan::packets(c_boundary::narrow(rate)) as u32
 }

@@ -4,6 +4,7 @@ ghost use Rattle.slot.specs.Calls.{checkNumber};
 ghost use Rattle.plan.specs.Records.{stateAt};
 ghost use Rattle.c_boundary.specs.Plans.{planOf};
 ghost use Rattle.c_boundary.specs.Calls.{Coded, Received};
+ghost use Rattle.c_slots.specs.PacketCalls.{CodedPackets, ReceivedPackets};
 
 // Codes header and data octets into the next slot; a refusal leaves the slot and `next` as they were.
 #[no_mangle]
@@ -20,15 +21,17 @@ pub extern "C" fn s3_code_slot(
 ) -> u32
     ensures { λ r. ⌜ Coded (stateAt (planOf (now (plan .entry))) mask start slot register) (now (table .entry)) (now (source .entry)) (now (coded .entry)) (now (next .entry)) r (now (coded .exit)) (now (next .exit)) ⌝ }
 {
-    let state = c_boundary::state_of(plan, mask, start, slot, register);
-    let number = c_boundary::with_next(slot::data_number(state), next);
-    if number != 0 {
-        return number;
-    }
-    let answer = slot_coder::code_slot(state, table, source, coded);
-    let after = answer.state;
-    c_boundary::put_moved(state.slot, after, next);
-    c_boundary::word(answer.number)
+    c_slots::code_slot(
+        plan,
+        mask,
+        start,
+        slot,
+        register,
+        table,
+        source,
+        coded,
+        next,
+    )
 }
 
 // Reads the next slot into header and data octets; a refusal leaves them as they were, and `next` too unless the slot
@@ -47,15 +50,78 @@ pub extern "C" fn s3_read_slot(
 ) -> u32
     ensures { λ r. ⌜ Received (stateAt (planOf (now (plan .entry))) mask start slot register) (now (table .entry)) (now (coded .entry)) (now (source .entry)) (now (next .entry)) r (now (source .exit)) (now (next .exit)) ⌝ }
 {
-    let state = c_boundary::state_of(plan, mask, start, slot, register);
-    let number = c_boundary::with_next(slot::data_number(state), next);
-    if number != 0 {
-        return number;
-    }
-    let answer = slot_reader::read_slot(state, table, coded, source);
-    let after = answer.state;
-    c_boundary::put_moved(state.slot, after, next);
-    c_boundary::word(answer.number)
+    c_slots::read_slot(
+        plan,
+        mask,
+        start,
+        slot,
+        register,
+        table,
+        coded,
+        source,
+        next,
+    )
+}
+
+// Codes header and packets into the next slot; a refusal leaves the slot and `next` as they were.
+#[no_mangle]
+pub extern "C" fn s3_code_packets(
+    plan: &[u8],
+    mask: u32,
+    start: u32,
+    slot: u32,
+    register: u32,
+    table: &[u16],
+    header: &[u8],
+    packets: &[u8],
+    coded: &mut [u8],
+    next: &mut [u32],
+) -> u32
+    ensures { λ r. ⌜ CodedPackets (stateAt (planOf (now (plan .entry))) mask start slot register) (now (table .entry)) (now (header .entry)) (now (packets .entry)) (now (coded .entry)) (now (next .entry)) r (now (coded .exit)) (now (next .exit)) ⌝ }
+{
+    c_slots::code_packets(
+        plan,
+        mask,
+        start,
+        slot,
+        register,
+        table,
+        header,
+        packets,
+        coded,
+        next,
+    )
+}
+
+// Reads the next slot into its header and packets; a refusal leaves them as they were, and `next` too unless the slot
+// itself was refused.
+#[no_mangle]
+pub extern "C" fn s3_read_packets(
+    plan: &[u8],
+    mask: u32,
+    start: u32,
+    slot: u32,
+    register: u32,
+    table: &[u16],
+    coded: &[u8],
+    header: &mut [u8],
+    packets: &mut [u8],
+    next: &mut [u32],
+) -> u32
+    ensures { λ r. ⌜ ReceivedPackets (stateAt (planOf (now (plan .entry))) mask start slot register) (now (table .entry)) (now (coded .entry)) (now (header .entry)) (now (packets .entry)) (now (next .entry)) r (now (header .exit)) (now (packets .exit)) (now (next .exit)) ⌝ }
+{
+    c_slots::read_packets(
+        plan,
+        mask,
+        start,
+        slot,
+        register,
+        table,
+        coded,
+        header,
+        packets,
+        next,
+    )
 }
 
 // Checks the parity of a slot of a rate, whatever its dispersal.

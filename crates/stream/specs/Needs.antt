@@ -1,27 +1,28 @@
 -- What the functions ask of their arguments.
 use mathlib.Core.Path.{_≡_}
 use mathlib.Core.List.{List}
-use Prim.Native.Nat.{ℕ, _+_, _*_}
+use Prim.Native.Nat.{ℕ, _+_}
 use lib.ListN.{length}
 use Rattle.plan.specs.declared.FrameState.{FrameState}
-use Rattle.plan.specs.Rates.{dataOctetsOf, packetsOf}
+use Rattle.plan.specs.Rates.{dataOctetsOf}
+use Rattle.packets.specs.Packets.{packNumber}
 use Rattle.slot.specs.Calls.{dataNumber}
-use Rattle.stream.specs.SlotPackets.{rateAt}
+use Rattle.stream.specs.SlotPackets.{headerOctets, rateAt, laidNumber, roomNumber}
 
--- a header, and an area for header and data octets of a rate
-pub record Laying (rate : ℕ) (header source : List ℕ) : Type 0 where
-  pub header-long : length header ≡ 22
-  pub source-long : length source ≡ 22 + dataOctetsOf rate
+-- packets that packing takes and a header, and an area for header and data octets of a rate
+pub record Laying (rate : ℕ) (header packets source : List ℕ) : Type 0 where
+  pub packs : packNumber rate packets (dataOctetsOf rate) ≡ 0
+  pub header-long : length header ≡ headerOctets
+  pub source-long : length source ≡ headerOctets + dataOctetsOf rate
 
--- a state at a data slot of a rate, with the same
-pub record Coding (s : FrameState) (rate : ℕ) (header source : List ℕ) : Type 0 where
-  pub place : dataNumber s ≡ 0
+-- header and packets that the state's next slot takes, of a rate, and the same area
+pub record Coding (s : FrameState) (rate : ℕ) (header packets source : List ℕ) : Type 0 where
+  pub lays : laidNumber s header packets ≡ 0
   pub rate-is : rate ≡ rateAt s
-  pub laying : Laying rate header source
+  pub source-long : length source ≡ headerOctets + dataOctetsOf rate
 
--- a state at a data slot of a rate, and areas for its header and data octets and for its packets
-pub record Reading (s : FrameState) (rate : ℕ) (source packets : List ℕ) : Type 0 where
-  pub place : dataNumber s ≡ 0
+-- areas for header and packets of the state's next slot, of a rate, and one for its header and data octets
+pub record Reading (s : FrameState) (rate : ℕ) (source header packets : List ℕ) : Type 0 where
+  pub fits : roomNumber s header packets ≡ 0
   pub rate-is : rate ≡ rateAt s
-  pub source-long : length source ≡ 22 + dataOctetsOf rate
-  pub packets-long : length packets ≡ 188 * packetsOf rate
+  pub source-long : length source ≡ headerOctets + dataOctetsOf rate

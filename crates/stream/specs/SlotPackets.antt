@@ -1,9 +1,10 @@
--- A slot coded from its header and packets, and read into its packets: packing (document 01, "Rates and slot") and the
--- slot calls ("Refusal list") one behind the other.
+-- A slot coded from its header and packets, and read into both: packing (document 01, "Rates and slot") and the slot calls
+-- ("Refusal list") one behind the other.
+use mathlib.Core.Bool.{_&&_}
 use mathlib.Core.List.{List, _++_}
 use Prim.Native.Nat.{ℕ, _*_}
 use lib.Dec.{eqb}
-use lib.ListN.{length, drop, replicate}
+use lib.ListN.{length, take, drop, replicate}
 use Rattle.lists.specs.Choice.{pick, andThen}
 use Rattle.refusal.specs.Numbers.{LENGTH}
 use Rattle.plan.specs.Records.{planIn}
@@ -17,49 +18,64 @@ use Rattle.slot.specs.Slots.{sourceOctets}
 use Rattle.slot.specs.Reading.{sourceOf}
 use Rattle.slot.specs.Calls.{rowsAt, dataNumber, codeAnswer, codeArea, readAnswer}
 
+-- "header 176" bits
+abbrev pub headerOctets : ℕ
+headerOctets = 22
+
 -- the rate at the place of the state's next slot
 unfoldable pub rateAt : FrameState → ℕ
 rateAt s = rateOf (planIn s) (groupAt (planIn s) (s .slot))
-
--- the same where that slot carries data; 0, which has no packets, where it is a dummy or the state is refused
-unfoldable pub rateNext : FrameState → ℕ
-rateNext s = pick (eqb (dataNumber s) 0) (rateAt s) 0
 
 -- "header 176, data": the header, and "one slot's packets" packed "into data octets"
 abbrev pub laid : FrameState → List ℕ → List ℕ → List ℕ
 laid s header packets = header ++ packed (packetsOf (rateAt s)) packets
 
--- the numbers before those of coding: "Slot calls: 1, 6 .. 3, 2", then "Packing: 1, 4, 7"
-unfoldable pub laidNumber : FrameState → List ℕ → ℕ
-laidNumber s packets = andThen (dataNumber s) (packNumber (rateAt s) packets (dataOctetsOf (rateAt s)))
+-- the numbers before those of coding: "Slot calls: 1, 6 .. 3, 2", then "Packing: 1, 4, 7", then 4 for the header
+unfoldable pub laidNumber : FrameState → List ℕ → List ℕ → ℕ
+laidNumber s header packets =
+    andThen (dataNumber s)
+    (andThen (packNumber (rateAt s) packets (dataOctetsOf (rateAt s)))
+    (pick (eqb (length header) headerOctets) 0 LENGTH))
 
 -- coding a slot from header and packets: number and state, and the coded octets
 unfoldable pub codePacketsAnswer : FrameState → List ℕ → List ℕ → List ℕ → List ℕ → Answer
 codePacketsAnswer s t header packets coded =
-    pick (eqb (laidNumber s packets) 0) (codeAnswer s t (laid s header packets) coded) (record { number = laidNumber s packets; state = s })
+    pick (eqb (laidNumber s header packets) 0) (codeAnswer s t (laid s header packets) coded)
+    (record { number = laidNumber s header packets; state = s })
 
 unfoldable pub codePacketsArea : FrameState → List ℕ → List ℕ → List ℕ → List ℕ → List ℕ
 codePacketsArea s t header packets coded =
-    pick (eqb (laidNumber s packets) 0) (codeArea s t (laid s header packets) coded) coded
+    pick (eqb (laidNumber s header packets) 0) (codeArea s t (laid s header packets) coded) coded
 
--- the numbers before those of reading: the state's, and 4 for an area of other than the slot's packets
-unfoldable pub roomNumber : FrameState → List ℕ → ℕ
-roomNumber s packets = andThen (dataNumber s) (pick (eqb (length packets) (188 * packetsOf (rateAt s))) 0 LENGTH)
+-- the numbers before those of reading: the state's, and 4 for areas of other than the slot's header and packets
+unfoldable pub roomNumber : FrameState → List ℕ → List ℕ → ℕ
+roomNumber s header packets =
+    andThen (dataNumber s)
+    (pick (eqb (length header) headerOctets && eqb (length packets) (188 * packetsOf (rateAt s))) 0 LENGTH)
 
--- reading the slot, with an area of the right length for its header and data octets
+-- an area of the right length for the slot's header and data octets
+abbrev pub sourceArea : FrameState → List ℕ
+sourceArea s = replicate (sourceOctets (rowsAt s)) 0
+
+-- reading the slot into it
 unfoldable pub slotAnswer : FrameState → List ℕ → List ℕ → Answer
-slotAnswer s t coded = readAnswer s t coded (replicate (sourceOctets (rowsAt s)) 0)
+slotAnswer s t coded = readAnswer s t coded (sourceArea s)
 
--- the packets of an accepted slot, "with 0x47 put back"; of any other the area as found
-unfoldable pub slotPackets : FrameState → List ℕ → List ℕ → List ℕ → List ℕ
-slotPackets s t coded found =
-    pick (eqb (slotAnswer s t coded .number) 0)
-    (unpacked (packetsOf (rateAt s)) (drop 22 (sourceOf (rowsAt s) (s .mask) (s .register) coded))) found
+-- header and packets of a received slot, "with 0x47 put back"
+unfoldable pub headerIn : FrameState → List ℕ → List ℕ
+headerIn s coded = take headerOctets (sourceOf (rowsAt s) (s .mask) (s .register) coded)
 
--- reading a slot into its packets: number and state, and the packets
-unfoldable pub readPacketsAnswer : FrameState → List ℕ → List ℕ → List ℕ → Answer
-readPacketsAnswer s t coded packets =
-    pick (eqb (roomNumber s packets) 0) (slotAnswer s t coded) (record { number = roomNumber s packets; state = s })
+unfoldable pub packetsIn : FrameState → List ℕ → List ℕ
+packetsIn s coded = unpacked (packetsOf (rateAt s)) (drop headerOctets (sourceOf (rowsAt s) (s .mask) (s .register) coded))
 
-unfoldable pub readPacketsArea : FrameState → List ℕ → List ℕ → List ℕ → List ℕ
-readPacketsArea s t coded packets = pick (eqb (roomNumber s packets) 0) (slotPackets s t coded packets) packets
+-- reading a slot into header and packets: number and state; and what its two areas hold then, which are as found where the
+-- number is not 0
+unfoldable pub readPacketsAnswer : FrameState → List ℕ → List ℕ → List ℕ → List ℕ → Answer
+readPacketsAnswer s t coded header packets =
+    pick (eqb (roomNumber s header packets) 0) (slotAnswer s t coded) (record { number = roomNumber s header packets; state = s })
+
+unfoldable pub readHeaderArea : FrameState → List ℕ → List ℕ → List ℕ → List ℕ → List ℕ
+readHeaderArea s t coded header packets = pick (eqb (readPacketsAnswer s t coded header packets .number) 0) (headerIn s coded) header
+
+unfoldable pub readPacketsArea : FrameState → List ℕ → List ℕ → List ℕ → List ℕ → List ℕ
+readPacketsArea s t coded header packets = pick (eqb (readPacketsAnswer s t coded header packets .number) 0) (packetsIn s coded) packets

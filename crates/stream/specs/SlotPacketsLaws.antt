@@ -1,6 +1,6 @@
--- Laws of slots and their packets: the sizes at a place, and that packets that were coded come back.
+-- Laws of slots and their packets: the sizes at a place, and what the numbers before coding and reading say.
 use mathlib.Core.Path.{_≡_, refl, sym, ap, _∙_}
-use mathlib.Core.Bool.{true}
+use mathlib.Core.Bool.{true, _&&_}
 use mathlib.Core.List.{List}
 use Prim.Native.Nat.{ℕ, _+_, _-_, _*_, _≤_}
 use native.Mathlib.Omega.{arith}
@@ -8,8 +8,7 @@ use borrow.Author.Tests.{eq-eqb, eqb-true}
 use lib.Dec.{eqb}
 use lib.ListN.{length, take, replicate, length-replicate}
 use lib.Seq.{length-take-le}
-use Rattle.lists.specs.Choice.{pick}
-use Rattle.lists.specs.ChoiceLaws.{then-zero, then-first, then-next, not-refused}
+use Rattle.lists.specs.ChoiceLaws.{and-left, and-right, then-zero, not-refused}
 use Rattle.refusal.specs.Numbers.{LENGTH}
 use Rattle.plan.specs.Sizes.{mostSource}
 use Rattle.plan.specs.Records.{planIn}
@@ -27,7 +26,7 @@ use Rattle.slot.specs.Reading.{sourceOf}
 use Rattle.slot.specs.Calls.{rowsAt, dataNumber, slotNumber, readNumber, readAnswer, readArea}
 use Rattle.slot.specs.CallLaws.{at-data}
 use Rattle.slot.specs.RoundTrips.{slotNumber-lengths}
-use Rattle.stream.specs.SlotPackets.{rateAt, laidNumber, roomNumber, slotAnswer}
+use Rattle.stream.specs.SlotPackets.{headerOctets, rateAt, laidNumber, roomNumber, slotAnswer}
 
 -- the state of a place with number 0 is one that a slot call takes
 pub place-taken : (s : FrameState) → dataNumber s ≡ 0 → stateNumber s ≡ 0
@@ -62,15 +61,18 @@ packets-most r = omega (arith, data-most r)
 pub source-at : (s : FrameState) → sourceOctets (rowsAt s) ≡ 22 + dataOctetsOf (rateAt s)
 source-at s = ap sourceOctets (rows-of-rate s) ∙ source-size (rateAt s)
 
--- the numbers where the place is refused, and where it is not
-pub laid-first : (s : FrameState) (packets : List ℕ) → (dataNumber s ≡ 0 → ⊥) → laidNumber s packets ≡ dataNumber s
-unfolding laidNumber
-laid-first s packets d = then-first (dataNumber s) _ d
+-- what a number 0 says of header and packets
+pub record Laid (s : FrameState) (header packets : List ℕ) : Type 0 where
+  pub place : dataNumber s ≡ 0
+  pub packs : packNumber (rateAt s) packets (dataOctetsOf (rateAt s)) ≡ 0
+  pub long : length header ≡ headerOctets
 
-pub laid-next : (s : FrameState) (rate : ℕ) (packets : List ℕ) → dataNumber s ≡ 0 → rate ≡ rateAt s
-    → packNumber rate packets (dataOctetsOf rate) ≡ laidNumber s packets
+pub lays : (s : FrameState) (header packets : List ℕ) → laidNumber s header packets ≡ 0 → Laid s header packets
 unfolding laidNumber
-laid-next s rate packets h e = rw (e, then-next (dataNumber s) (packNumber (rateAt s) packets (dataOctetsOf (rateAt s))) h)
+lays s header packets h =
+    let a = then-zero (dataNumber s) _ h in
+    let b = then-zero (packNumber (rateAt s) packets (dataOctetsOf (rateAt s))) _ (a .1) in
+    record { place = a .0; packs = b .0; long = eqb-true (length header) _ (not-refused (eqb (length header) headerOctets) LENGTH (omega arith) (b .1)) }
 
 -- of the area that reading is lent only the length counts
 pub slot-answer : (s : FrameState) (t coded source : List ℕ) → length source ≡ 22 + dataOctetsOf (rateAt s)
@@ -90,26 +92,28 @@ unpacks s rate octets room h e l k =
     let known : rateOk rate ≡ true = rw e (rate-known s h) in
     sized-yes rate room (length octets) (record { known = known; packets = k; octets = l ∙ rate-sizes rate known .packed })
 
--- the numbers before reading where the place is refused, and where it is not
-pub room-first : (s : FrameState) (packets : List ℕ) → (dataNumber s ≡ 0 → ⊥) → roomNumber s packets ≡ dataNumber s
-unfolding roomNumber
-room-first s packets d = then-first (dataNumber s) _ d
-
-pub room-next : (s : FrameState) (packets : List ℕ) → dataNumber s ≡ 0
-    → roomNumber s packets ≡ pick (eqb (length packets) (188 * packetsOf (rateAt s))) 0 LENGTH
-unfolding roomNumber
-room-next s packets h = then-next (dataNumber s) _ h
-
--- what a number 0 says
-pub record Room (s : FrameState) (packets : List ℕ) : Type 0 where
+-- what a number 0 says of the areas
+pub record Room (s : FrameState) (header packets : List ℕ) : Type 0 where
   pub place : dataNumber s ≡ 0
-  pub long : length packets ≡ 188 * packetsOf (rateAt s)
+  pub header-long : length header ≡ headerOctets
+  pub packets-long : length packets ≡ 188 * packetsOf (rateAt s)
 
-pub room : (s : FrameState) (packets : List ℕ) → roomNumber s packets ≡ 0 → Room s packets
+pub room : (s : FrameState) (header packets : List ℕ) → roomNumber s header packets ≡ 0 → Room s header packets
 unfolding roomNumber
-room s packets h =
+room s header packets h =
     let a = then-zero (dataNumber s) _ h in
-    record { place = a .0; long = eqb-true (length packets) _ (not-refused (eqb (length packets) (188 * packetsOf (rateAt s))) LENGTH (omega arith) (a .1)) }
+    let t = not-refused (eqb (length header) headerOctets && eqb (length packets) (188 * packetsOf (rateAt s))) LENGTH (omega arith) (a .1) in
+    record {
+      place = a .0;
+      header-long = eqb-true (length header) _ (and-left (eqb (length header) headerOctets) _ t);
+      packets-long = eqb-true (length packets) _ (and-right (eqb (length header) headerOctets) _ t);
+    }
+
+pub room-for : (s : FrameState) (header packets : List ℕ) → dataNumber s ≡ 0 → length header ≡ headerOctets
+    → length packets ≡ 188 * packetsOf (rateAt s) → roomNumber s header packets ≡ 0
+unfolding roomNumber
+room-for s header packets h e l =
+    rw (eq-eqb (dataNumber s) 0 h, eq-eqb (length header) headerOctets e, eq-eqb (length packets) (188 * packetsOf (rateAt s)) l)
 
 -- the part of the area for header and data octets that a rate takes
 pub source-within : (n r : ℕ) → n ≡ dataOctetsOf r → 22 + n ≤ length (replicate {A = ℕ} mostSource 0)

@@ -1,28 +1,24 @@
 // Coding a slot from its header and its packets.
 ghost use mathlib.Core.Path.{_≡_};
 ghost use mathlib.Core.List.{_++_};
-ghost use Rattle.plan.specs.Rates.{dataOctetsOf, packetsOf};
-ghost use Rattle.packets.specs.Packets.{packed, packNumber};
+ghost use Rattle.plan.specs.Rates.{packetsOf};
+ghost use Rattle.packets.specs.Packets.{packed};
 ghost use Rattle.stream.specs.Needs.{Laying, Coding};
 ghost use Rattle.stream.specs.SlotPackets.{codePacketsAnswer, codePacketsArea};
 use crate::HEADER;
-use crate::places::rate_at;
+use crate::numbers::laid_number;
+use crate::numbers::rate_at;
 use plan::Answer;
 use plan::FrameState;
 
-// Header and data octets of a slot, or the refusal of its packets.
-fn lay(rate: u16, header: &[u8], packets: &[u8], source: &mut [u8]) -> u8
-    requires { ⌜ Laying rate (now header) (now source) ⌝ }
-    ensures { λ r. ⌜ r ≡ packNumber rate (now (packets .entry)) (dataOctetsOf rate) ⌝ }
-    ensures { λ r. ⌜ (r ≡ 0 → now (source .exit) ≡ now (header .entry) ++ packed (packetsOf rate) (now (packets .entry))) ⌝ }
+// Header and data octets of a slot.
+fn lay(rate: u16, header: &[u8], packets: &[u8], source: &mut [u8])
+    requires { ⌜ Laying rate (now header) (now packets) (now source) ⌝ }
+    ensures { λ _. ⌜ now (source .exit) ≡ now (header .entry) ++ packed (packetsOf rate) (now (packets .entry)) ⌝ }
 {
     let end = source.len();
-    let number = packets::pack(rate, packets, &mut source[HEADER..end]);
-    if number != 0 {
-        return number;
-    }
+    packets::pack(rate, packets, &mut source[HEADER..end]);
     bits::copy(header, &mut source[0..HEADER]);
-    0
 }
 
 // Codes a slot by way of an area for its header and data octets.
@@ -35,14 +31,11 @@ fn code_by(
     source: &mut [u8],
     coded: &mut [u8],
 ) -> Answer
-    requires { ⌜ Coding state rate (now header) (now source) ⌝ }
+    requires { ⌜ Coding state rate (now header) (now packets) (now source) ⌝ }
     ensures { λ r. ⌜ r ≡ codePacketsAnswer state (now (table .entry)) (now (header .entry)) (now (packets .entry)) (now (coded .entry)) ⌝ }
     ensures { λ _. ⌜ now (coded .exit) ≡ codePacketsArea state (now (table .entry)) (now (header .entry)) (now (packets .entry)) (now (coded .entry)) ⌝ }
 {
-    let number = lay(rate, header, packets, source);
-    if number != 0 {
-        return Answer { number, state };
-    }
+    lay(rate, header, packets, source);
     slot_coder::code_slot(state, table, source, coded)
 }
 
@@ -51,14 +44,14 @@ fn code_by(
 pub fn code_packets(
     state: FrameState,
     table: &[u16],
-    header: &[u8; 22],
+    header: &[u8],
     packets: &[u8],
     coded: &mut [u8],
 ) -> Answer
     ensures { λ r. ⌜ r ≡ codePacketsAnswer state (now (table .entry)) (now (header .entry)) (now (packets .entry)) (now (coded .entry)) ⌝ }
     ensures { λ _. ⌜ now (coded .exit) ≡ codePacketsArea state (now (table .entry)) (now (header .entry)) (now (packets .entry)) (now (coded .entry)) ⌝ }
 {
-    let number = slot::data_number(state);
+    let number = laid_number(state, header, packets);
     if number != 0 {
         return Answer { number, state };
     }

@@ -1,11 +1,11 @@
-// Packets of a stream and the slots that carry them: a slot coded from its packets and read into them.
+// Packets of a stream and the slots that carry them: a slot coded from its header and packets, and read into both.
 mod coding;
-mod places;
+mod numbers;
 mod reading;
 
 pub use coding::code_packets;
-pub use places::packets_next;
-pub use places::rate_next;
+pub use numbers::laid_number;
+pub use numbers::room_number;
 pub use reading::read_packets;
 
 // The header octets of a slot.

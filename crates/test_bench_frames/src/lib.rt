@@ -1,7 +1,7 @@
 // Whole frames of one rate, coded and read again and again.
 ghost use Rattle.test_bench_frames.specs.Areas.{Room};
-use files::field;
 use libc::STDOUT_FILENO;
+use test_lines::field;
 use test_samples::MASK;
 use test_samples::START;
 

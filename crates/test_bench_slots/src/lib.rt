@@ -1,8 +1,8 @@
 // Slots coded and read again and again at the start of a frame.
 ghost use Rattle.test_samples.specs.Areas.{Room};
-use files::field;
 use libc::STDOUT_FILENO;
 use plan::FrameState;
+use test_lines::field;
 
 // Makes what is coded next depend on the slot before it.
 fn carry(coded: &[u8; plan::SLOT_OCTETS], source: &mut [u8]) {

@@ -1,6 +1,6 @@
 // The lines that are written.
-use files::field;
 use libc::STDOUT_FILENO;
+use test_lines::field;
 
 // The number of a frame's plan, and what a call answered.
 pub fn answer(frame: u16, name: &[u8], answer: u8) {

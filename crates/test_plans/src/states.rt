@@ -1,9 +1,9 @@
 // Openings and passes, each with its number and the slot and register of its state.
-use files::field;
 use libc::STDOUT_FILENO;
 use plan::Answer;
 use plan::FrameState;
 use plan::Plan;
+use test_lines::field;
 
 // The number, slot and register of an answer, behind what was asked.
 fn answered(answer: Answer) {

@@ -1,7 +1,7 @@
 // The lines that are written.
-use files::field;
 use libc::STDOUT_FILENO;
 use plan::Answer;
+use test_lines::field;
 
 // Which slot the line is about.
 fn title(rate: u16, slot: u16) {

@@ -1,38 +1,32 @@
--- `stream::code_packets`: the place's number decides whether the packets are laid out at all.
-use mathlib.Core.Path.{sym, _∙_}
+-- `stream::code_packets`: the number before coding decides whether header and packets are laid out at all.
+use mathlib.Core.Path.{_≡_, sym, _∙_}
 use native.Mathlib.Omega.{arith}
 use borrow.Author.Needs.{needs}
 use borrow.Author.Tests.{ne-eqb}
-use Rattle.stream.specs.SlotPackets.{codePacketsAnswer, codePacketsArea}
-use Rattle.stream.specs.SlotPacketsLaws.{laid-first, data-most, source-within, source-taken}
+use Rattle.stream.specs.SlotPackets.{laidNumber, codePacketsAnswer, codePacketsArea}
+use Rattle.stream.specs.SlotPacketsLaws.{lays, data-most, source-within, source-taken}
 use Rattle.stream.proofs.coding.code_packets.Statement.{statement}
 use Rattle.stream.proofs.coding.code_packets.Tie as tie
 
 returns : tie.Need-returns
 unfolding codePacketsAnswer codePacketsArea
 returns c =
-    let a = c .before .before .before .before .before .args in
-    let n = c .before .data-number .ensures in
-    let d = laid-first (a .state) (a .packets .now) (λ z. c .if1 .taken (n ∙ z)) in
+    let n = c .before .laid-number .ensures in
     let e = ne-eqb _ 0 (c .if1 .taken) in
-    (rw (d, ← n, e), rw (d, ← n, e))
+    (rw (← n, e), rw (← n, e))
 
-part-source-end : tie.Need-part-source-end
-part-source-end c = let o = c .before in source-within (o .data-octets .result) (o .before .rate-at .result) (o .data-octets .ensures)
+none : (c : tie.Else1) → let a = c .before .before .before .before .before .before .args in laidNumber (a .state) (a .header .now) (a .packets .now) ≡ 0
+none c = sym (c .before .laid-number .ensures) ∙ c .if1 .left
 
 code-by-requires : tie.Need-code-by-requires
 code-by-requires c κs =
-    let o = c .before .before .before in
+    let o = c .before .before in
     let r = o .before in
-    let e = r .before in
     record {
-      place = sym (e .before .data-number .ensures) ∙ e .if1 .left;
+      lays = none (r .before);
       rate-is = r .rate-at .ensures;
-      laying = record { header-long = search needs; source-long = source-taken (o .data-octets .result) (r .rate-at .result) (o .data-octets .ensures) };
+      source-long = source-taken (o .data-octets .result) (r .rate-at .result) (o .data-octets .ensures);
     }
-
-returns-2 : tie.Need-returns-2
-returns-2 c = search needs
 
 pub code-packets-spec : {M : Type 1} → statement M
 code-packets-spec =
@@ -40,12 +34,12 @@ code-packets-spec =
     (tie.spec
     (λ c κs. search needs)
     returns
-    (λ c κs. search needs)
+    (λ c κs. lays _ _ _ (none c) .place)
     (λ c κs. search needs)
     (λ c. omega (arith, c .data-octets .ensures, data-most (c .before .rate-at .result)))
     (λ c. search needs)
     (λ c. search needs)
-    part-source-end
+    (λ c. source-within (c .data-octets .result) (c .before .rate-at .result) (c .data-octets .ensures))
     code-by-requires
     (λ c. search needs)
-    returns-2)
+    (λ c. search needs))

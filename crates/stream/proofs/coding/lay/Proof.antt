@@ -1,5 +1,5 @@
 -- `stream::lay`: the packets' data octets are put behind the header's place, and then the header there.
-use mathlib.Core.Path.{_≡_, sym, ap, ap₂, _∙_}
+use mathlib.Core.Path.{_≡_, ap, ap₂, _∙_}
 use mathlib.Core.List.{List, _++_}
 use Prim.Native.Nat.{ℕ, _+_, _-_}
 use native.Mathlib.Omega.{arith}
@@ -17,34 +17,18 @@ use Rattle.stream.proofs.coding.lay.Tie as tie
 behind : (xs : List ℕ) (n : ℕ) → length xs ≡ 22 + n → length (take (length xs - 22) (drop 22 xs)) ≡ n
 behind xs n l = length-part 22 (length xs) xs (omega arith) ∙ omega (arith, l)
 
--- packing into it
-number : (c : tie.After-pack)
-    → let a = c .before .before .before .before .before .args in
-    c .pack .result ≡ packNumber (a .rate) (a .packets .now) (dataOctetsOf (a .rate))
-number c =
-    let s = c .before .before .before .before .before in
-    let a = s .args in
-    c .pack .ensures .number ∙ ap (packNumber (a .rate) (a .packets .now)) (behind (a .source .now) (dataOctetsOf (a .rate)) (s .pre .source-long))
-
 returns : tie.Need-returns
-returns c = (number (c .before .before .before), λ z. absurd (c .if1 .taken z))
-
-returns-2 : tie.Need-returns-2
-returns-2 c =
+returns c =
     let k = c .before .before in
-    let e = k .before .before in
-    let p = e .before .before .before in
+    let p = k .before .before .before .before in
     let s = p .before .before .before .before .before in
     let a = s .args in
-    let n = sym (number p) ∙ e .if1 .left in
     let l = behind (a .source .now) (dataOctetsOf (a .rate)) (s .pre .source-long) in
-    let b : p .pack .last .1 .1 .0 ≡ packed (packetsOf (a .rate)) (a .packets .now) = p .pack .ensures .area ∙ rw (eq-eqb _ 0 (sym (p .pack .ensures .number) ∙ e .if1 .left)) in
-    let h : k .copy .last .1 .0 ≡ a .header .now = k .copy .ensures in (
-      sym n,
-      λ z.
-          header-first (a .source .now) (k .copy .last .1 .0) (p .pack .last .1 .1 .0) 22 (omega arith) (ap length h ∙ s .pre .header-long) (p .pack .kept .1 .1 .0 ∙ l ∙ omega (arith, s .pre .source-long))
-          ∙ ap₂ (λ (x y : List ℕ). x ++ y) h b,
-    )
+    let n = ap (packNumber (a .rate) (a .packets .now)) l ∙ s .pre .packs in
+    let b : p .pack .last .1 .1 .0 ≡ packed (packetsOf (a .rate)) (a .packets .now) = p .pack .ensures .area ∙ rw (eq-eqb _ 0 n) in
+    let h : k .copy .last .1 .0 ≡ a .header .now = k .copy .ensures in
+    header-first (a .source .now) (k .copy .last .1 .0) (p .pack .last .1 .1 .0) 22 (omega arith) (ap length h ∙ s .pre .header-long) (p .pack .kept .1 .1 .0 ∙ l ∙ omega (arith, s .pre .source-long))
+    ∙ ap₂ (λ (x y : List ℕ). x ++ y) h b
 
 pub lay-spec : {M : Type 1} → statement M
 lay-spec =
@@ -55,10 +39,8 @@ lay-spec =
     (λ c. search needs)
     (λ c κs. search needs)
     (λ c. search needs)
-    returns
-    (λ c. search needs)
     (λ c. search needs)
     (λ c. search needs)
     (λ c κs. search needs)
     (λ c. search needs)
-    returns-2)
+    returns)

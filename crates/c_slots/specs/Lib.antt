@@ -1,0 +1,2 @@
+pub mod PacketCalls
+pub mod PacketCallLaws

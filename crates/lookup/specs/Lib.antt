@@ -1,0 +1,3 @@
+pub mod Lookups
+pub mod LookupLaws
+pub mod Needs

@@ -1,2 +1,0 @@
-pub mod NullLaws
-pub mod Nulls
