@@ -1,7 +1,8 @@
 /* ISDB-S3 slot framer and its reader: slots, whole frames, TMCC blocks, symbols as labels, TS packets.
  *
- * Every call answers a number: 0 where it is accepted, else the refusal of the first test that failed. A call tests in the
- * order in which its numbers are listed. Unless a call says otherwise, a refusal leaves every area as it was found.
+ * Every call but those under "What to lend" answers a number: 0 where it is accepted, else the refusal of the first test that
+ * failed; s3_word gives its word. A call tests in the order in which its numbers are listed. Unless a call says otherwise, a
+ * refusal leaves every area as it was found.
  *
  * An area is a pointer and its length in elements. A pointer is never null, also where the length is 0, and an area that is
  * written overlaps no other area of the call. The calls keep no state and need no more than 256 KiB of stack. */
@@ -13,6 +14,20 @@
 
 #ifdef __cplusplus
 extern "C" {
+#endif
+
+/* The version of the library: 10,000 times the major number, 100 times the minor one, and the patch number. */
+#define S3_VERSION 200
+
+/* A result that nobody looks at is a mistake, of which the compiler warns. */
+#if defined(__cplusplus) && __cplusplus >= 201703L
+#define S3_RESULT [[nodiscard]]
+#elif defined(__STDC_VERSION__) && __STDC_VERSION__ >= 202311L
+#define S3_RESULT [[nodiscard]]
+#elif defined(__GNUC__)
+#define S3_RESULT __attribute__((warn_unused_result))
+#else
+#define S3_RESULT
 #endif
 
 /* The numbers. */
@@ -30,19 +45,30 @@ extern "C" {
 #define S3_TAIL 11u     /* one of the last two TMCC bits is 1 */
 #define S3_LABEL 12u    /* a label is 2^modulation or more */
 
+/* The word of a number; that of 0 is "accepted", and a number that no call answers has none, "unknown". */
+S3_RESULT static inline const char *s3_word(uint32_t number) {
+    static const char *const words[] = {"accepted", "plan", "dummy", "full", "length", "table", "register",
+                                        "sync", "parity", "BCH", "stuff", "tail", "label"};
+    return number < sizeof words / sizeof *words ? words[number] : "unknown";
+}
+
 /* Lengths of areas. */
 #define S3_NEXT 2u                /* numbers of `next`: next slot, register */
 #define S3_SLOTS 120u             /* slots of a frame, and answer octets of s3_read_frame */
 #define S3_SLOT_OCTETS 5610u      /* octets of a coded slot */
 #define S3_FRAME_OCTETS 673200u   /* octets of a coded frame: slot s begins at 5,610 * (s - 1) */
 #define S3_HEADER_OCTETS 22u      /* octets of a slot's header */
+#define S3_PACKET_OCTETS 188u     /* octets of a TS packet */
+#define S3_MOST_SOURCE 5071u      /* header and data octets of the largest slot, that of rate 11: no slot has more */
+#define S3_MOST_TABLE 510u        /* numbers of the longest published parity table, that of rate 10 */
+#define S3_PLACE 4u               /* numbers of `place`: group, modulation, rate, whether the slot carries data */
 #define S3_TMCC_OCTETS 1178u      /* octets of a frame's 9,422 TMCC bits and two zeros */
 #define S3_BLOCK_OCTETS 3960u     /* octets of a coded TMCC block */
 #define S3_BLOCK_LABELS 31680u    /* labels of a TMCC block */
 
 /* Rates 1 to 11 are 1/3, 2/5, 1/2, 3/5, 2/3, 3/4, 7/9, 4/5, 5/6, 7/8, 9/10.
- * P, the packets of a slot, are 10, 12, 15, 18, 20, 22, 23, 24, 25, 26, 27.
- * T, the length of the published parity table, is 278, 333, 356, 402, 432, 461, 471, 465, 481, 510, 439.
+ * P, the packets of a slot, are 10, 12, 15, 18, 20, 22, 23, 24, 25, 26, 27: s3_packets_of.
+ * T, the length of the published parity table, is 278, 333, 356, 402, 432, 461, 471, 465, 481, 510, 439: s3_table_entries.
  * Modulations 1 to 5 are pi/2-shift BPSK, QPSK, 8PSK, 16APSK, 32APSK: bits in a symbol.
  *
  * plan: three octets for each of 1 to 8 groups: modulation, rate and slots. Any other plan_length is refused 1. The slots
@@ -59,115 +85,168 @@ extern "C" {
  * source: the 22 header octets of a slot, then its 187 * P data octets. In a whole-frame call the data slots lie end to end.
  */
 
+/* What to lend: these four answer a count, and 0 where the plan is refused or the rate is unknown. */
+
+/* Header and data octets of all data slots: the source of s3_code_frame and s3_read_frame. */
+S3_RESULT uint64_t s3_source_octets(const uint8_t *plan, size_t plan_length);
+
+/* Numbers of the groups' published parity tables: those of s3_published_tables. */
+S3_RESULT uint64_t s3_tables_entries(const uint8_t *plan, size_t plan_length);
+
+/* T, the numbers of the published parity table of a rate. */
+S3_RESULT uint32_t s3_table_entries(uint32_t rate);
+
+/* P, the packets of a slot of a rate. */
+S3_RESULT uint32_t s3_packets_of(uint32_t rate);
+
+/* Where a slot lies.
+ *   place  4 numbers: its group from 0, modulation, rate, and 1 where it carries data; zeros with a refusal
+ * Numbers: 1 (also slot 0), 3, 4. Where place has another length it is left as found. */
+S3_RESULT uint32_t s3_place(const uint8_t *plan, size_t plan_length, uint32_t slot, uint32_t *place,
+                            size_t place_length);
+
 /* Opens a frame.
  *   next  2 numbers: slot 1 and the register at its start; two zeros where the call refuses 1 or 6
  * Numbers: 1, 6, 4. Where next has another length it is left as found. */
-uint32_t s3_open(const uint8_t *plan, size_t plan_length, uint32_t mask, uint32_t start, uint32_t *next,
-                 size_t next_length);
+S3_RESULT uint32_t s3_open(const uint8_t *plan, size_t plan_length, uint32_t mask, uint32_t start, uint32_t *next,
+                           size_t next_length);
 
 /* Passes a dummy.
  *   next  2 numbers: the next slot, and the register as handed in
  * Numbers: 1 (also slot 0), 6, 3, 2 (at a data slot), 4. */
-uint32_t s3_pass(const uint8_t *plan, size_t plan_length, uint32_t mask, uint32_t start, uint32_t slot,
-                 uint32_t register_, uint32_t *next, size_t next_length);
+S3_RESULT uint32_t s3_pass(const uint8_t *plan, size_t plan_length, uint32_t mask, uint32_t start, uint32_t slot,
+                           uint32_t register_, uint32_t *next, size_t next_length);
 
 /* Codes one data slot.
  *   source  22 + 187 * P octets
  *   coded   5,610 octets: the slot
  *   next    2 numbers: the next slot, and the register there
  * Numbers: 1 (also slot 0), 6, 3, 2 (at a dummy), 4, 5. */
-uint32_t s3_code_slot(const uint8_t *plan, size_t plan_length, uint32_t mask, uint32_t start, uint32_t slot,
-                      uint32_t register_, const uint16_t *table, size_t table_length, const uint8_t *source,
-                      size_t source_length, uint8_t *coded, size_t coded_length, uint32_t *next, size_t next_length);
+S3_RESULT uint32_t s3_code_slot(const uint8_t *plan, size_t plan_length, uint32_t mask, uint32_t start, uint32_t slot,
+                                uint32_t register_, const uint16_t *table, size_t table_length, const uint8_t *source,
+                                size_t source_length, uint8_t *coded, size_t coded_length, uint32_t *next,
+                                size_t next_length);
 
 /* Reads one data slot.
  *   coded   5,610 octets
  *   source  22 + 187 * P octets: header and data
  *   next    2 numbers: the next slot, and the register there; written with 0, and with 8, 9 and 10 too
  * Numbers: 1 (also slot 0), 6, 3, 2 (at a dummy), 4, 5, 8, 9, 10. */
-uint32_t s3_read_slot(const uint8_t *plan, size_t plan_length, uint32_t mask, uint32_t start, uint32_t slot,
-                      uint32_t register_, const uint16_t *table, size_t table_length, const uint8_t *coded,
-                      size_t coded_length, uint8_t *source, size_t source_length, uint32_t *next, size_t next_length);
+S3_RESULT uint32_t s3_read_slot(const uint8_t *plan, size_t plan_length, uint32_t mask, uint32_t start, uint32_t slot,
+                                uint32_t register_, const uint16_t *table, size_t table_length, const uint8_t *coded,
+                                size_t coded_length, uint8_t *source, size_t source_length, uint32_t *next,
+                                size_t next_length);
+
+/* Codes one data slot from its packets.
+ *   header   22 octets
+ *   packets  188 * P octets, each packet beginning 0x47
+ *   coded    5,610 octets: the slot
+ *   next     2 numbers: the next slot, and the register there
+ * Numbers: 1 (also slot 0), 6, 3, 2 (at a dummy), 4 (packets), 7, 4 (header, coded, next), 5. */
+S3_RESULT uint32_t s3_code_packets(const uint8_t *plan, size_t plan_length, uint32_t mask, uint32_t start,
+                                   uint32_t slot, uint32_t register_, const uint16_t *table, size_t table_length,
+                                   const uint8_t *header, size_t header_length, const uint8_t *packets,
+                                   size_t packets_length, uint8_t *coded, size_t coded_length, uint32_t *next,
+                                   size_t next_length);
+
+/* Reads one data slot into its packets.
+ *   coded    5,610 octets
+ *   header   22 octets
+ *   packets  188 * P octets: the packets, 0x47 put back
+ *   next     2 numbers: the next slot, and the register there; written with 0, and with 8, 9 and 10 too
+ * Numbers: 1 (also slot 0), 6, 3, 2 (at a dummy), 4, 5, 8, 9, 10. */
+S3_RESULT uint32_t s3_read_packets(const uint8_t *plan, size_t plan_length, uint32_t mask, uint32_t start,
+                                   uint32_t slot, uint32_t register_, const uint16_t *table, size_t table_length,
+                                   const uint8_t *coded, size_t coded_length, uint8_t *header, size_t header_length,
+                                   uint8_t *packets, size_t packets_length, uint32_t *next, size_t next_length);
 
 /* Checks the LDPC parity of a slot, whatever its dispersal.
  *   coded  5,610 octets
  * Numbers: 1, 4, 5, 8. Nothing is written. */
-uint32_t s3_check_parity(uint32_t rate, const uint16_t *table, size_t table_length, const uint8_t *coded,
-                         size_t coded_length);
+S3_RESULT uint32_t s3_check_parity(uint32_t rate, const uint16_t *table, size_t table_length, const uint8_t *coded,
+                                   size_t coded_length);
 
 /* Codes a whole frame.
  *   source  the octets of all data slots, end to end
  *   frame   673,200 octets: each data slot in its part; the dummies' parts are left as found
  * Numbers: 1, 6, 4, 5. */
-uint32_t s3_code_frame(const uint8_t *plan, size_t plan_length, uint32_t mask, uint32_t start, const uint16_t *tables,
-                       size_t tables_length, const uint8_t *source, size_t source_length, uint8_t *frame,
-                       size_t frame_length);
+S3_RESULT uint32_t s3_code_frame(const uint8_t *plan, size_t plan_length, uint32_t mask, uint32_t start,
+                                 const uint16_t *tables, size_t tables_length, const uint8_t *source,
+                                 size_t source_length, uint8_t *frame, size_t frame_length);
 
 /* Reads a whole frame.
  *   frame    673,200 octets
  *   source   the octets of all data slots, end to end; those of a slot that is not read with 0 are left as found
  *   answers  120 octets, one for each slot: 0, 2 for a dummy, or 8, 9, 10
  * Numbers: 1, 6, 4, 5. */
-uint32_t s3_read_frame(const uint8_t *plan, size_t plan_length, uint32_t mask, uint32_t start, const uint16_t *tables,
-                       size_t tables_length, const uint8_t *frame, size_t frame_length, uint8_t *source,
-                       size_t source_length, uint8_t *answers, size_t answers_length);
+S3_RESULT uint32_t s3_read_frame(const uint8_t *plan, size_t plan_length, uint32_t mask, uint32_t start,
+                                 const uint16_t *tables, size_t tables_length, const uint8_t *frame,
+                                 size_t frame_length, uint8_t *source, size_t source_length, uint8_t *answers,
+                                 size_t answers_length);
 
 /* Codes a TMCC block, under a parity table of rate 3.
  *   source  1,178 octets: 9,422 bits, and two zeros
  *   block   3,960 octets
  * Numbers: 6, 4, 5, 11. */
-uint32_t s3_code_tmcc(uint32_t mask, uint32_t start, const uint16_t *table, size_t table_length, const uint8_t *source,
-                      size_t source_length, uint8_t *block, size_t block_length);
+S3_RESULT uint32_t s3_code_tmcc(uint32_t mask, uint32_t start, const uint16_t *table, size_t table_length,
+                                const uint8_t *source, size_t source_length, uint8_t *block, size_t block_length);
 
 /* Reads a TMCC block, under a parity table of rate 3.
  *   block   3,960 octets
  *   source  1,178 octets: 9,422 bits, and two zeros
  * Numbers: 6, 4, 5, 8, 9. */
-uint32_t s3_read_tmcc(uint32_t mask, uint32_t start, const uint16_t *table, size_t table_length, const uint8_t *block,
-                      size_t block_length, uint8_t *source, size_t source_length);
+S3_RESULT uint32_t s3_read_tmcc(uint32_t mask, uint32_t start, const uint16_t *table, size_t table_length,
+                                const uint8_t *block, size_t block_length, uint8_t *source, size_t source_length);
 
 /* The labels of a slot, one octet each.
  *   coded   5,610 octets
  *   labels  44,880 / modulation octets
  * Numbers: 1, 4. */
-uint32_t s3_labels(uint32_t modulation, uint32_t rate, const uint8_t *coded, size_t coded_length, uint8_t *labels,
-                   size_t labels_length);
+S3_RESULT uint32_t s3_labels(uint32_t modulation, uint32_t rate, const uint8_t *coded, size_t coded_length,
+                             uint8_t *labels, size_t labels_length);
 
 /* The slot of labels.
  *   labels  44,880 / modulation octets, each below 2^modulation
  *   coded   5,610 octets
  * Numbers: 1, 4, 12. */
-uint32_t s3_slot_of_labels(uint32_t modulation, uint32_t rate, const uint8_t *labels, size_t labels_length,
-                           uint8_t *coded, size_t coded_length);
+S3_RESULT uint32_t s3_slot_of_labels(uint32_t modulation, uint32_t rate, const uint8_t *labels, size_t labels_length,
+                                     uint8_t *coded, size_t coded_length);
 
 /* The labels of a TMCC block, one octet each.
  *   block   3,960 octets
  *   labels  31,680 octets
  * Numbers: 4. */
-uint32_t s3_tmcc_labels(const uint8_t *block, size_t block_length, uint8_t *labels, size_t labels_length);
+S3_RESULT uint32_t s3_tmcc_labels(const uint8_t *block, size_t block_length, uint8_t *labels, size_t labels_length);
 
 /* The TMCC block of labels.
  *   labels  31,680 octets, each 0 or 1
  *   block   3,960 octets
  * Numbers: 4, 12. */
-uint32_t s3_tmcc_of_labels(const uint8_t *labels, size_t labels_length, uint8_t *block, size_t block_length);
+S3_RESULT uint32_t s3_tmcc_of_labels(const uint8_t *labels, size_t labels_length, uint8_t *block, size_t block_length);
 
 /* Packs the TS packets of one slot.
  *   packets  188 * P octets, each packet beginning 0x47
  *   octets   187 * P octets: the packets without it
  * Numbers: 1, 4, 7. */
-uint32_t s3_pack(uint32_t rate, const uint8_t *packets, size_t packets_length, uint8_t *octets, size_t octets_length);
+S3_RESULT uint32_t s3_pack(uint32_t rate, const uint8_t *packets, size_t packets_length, uint8_t *octets,
+                           size_t octets_length);
 
 /* Unpacks the data octets of one slot.
  *   octets   187 * P octets
  *   packets  188 * P octets: the packets, 0x47 put back
  * Numbers: 1, 4. */
-uint32_t s3_unpack(uint32_t rate, const uint8_t *octets, size_t octets_length, uint8_t *packets, size_t packets_length);
+S3_RESULT uint32_t s3_unpack(uint32_t rate, const uint8_t *octets, size_t octets_length, uint8_t *packets,
+                             size_t packets_length);
 
 /* Copies the published parity table of a rate.
  *   table  T numbers
  * Numbers: 1, 4. */
-uint32_t s3_published_table(uint32_t rate, uint16_t *table, size_t table_length);
+S3_RESULT uint32_t s3_published_table(uint32_t rate, uint16_t *table, size_t table_length);
+
+/* Copies the published parity tables of a plan's groups, in group order, as the whole-frame calls take them.
+ *   tables  as many numbers as s3_tables_entries says
+ * Numbers: 1, 4. */
+S3_RESULT uint32_t s3_published_tables(const uint8_t *plan, size_t plan_length, uint16_t *tables, size_t tables_length);
 
 #ifdef __cplusplus
 }

@@ -87,6 +87,58 @@ static void published(void)
     memcpy(tables + 471, table3, sizeof table3);
 }
 
+static void words(void)
+{
+    EXPECT(strcmp(s3_word(S3_ACCEPTED), "accepted") == 0 && strcmp(s3_word(S3_PLAN), "plan") == 0);
+    EXPECT(strcmp(s3_word(S3_BCH), "BCH") == 0 && strcmp(s3_word(S3_LABEL), "label") == 0);
+    EXPECT(strcmp(s3_word(13), "unknown") == 0 && strcmp(s3_word(UINT32_MAX), "unknown") == 0);
+}
+
+/* What a caller asks before it lends. */
+static void asking(void)
+{
+    static uint16_t area[COUNT(tables) + 1];
+    for (uint32_t rate = 0; rate < COUNT(packets); rate++) {
+        EXPECT(s3_packets_of(rate) == packets[rate] && s3_table_entries(rate) == table_lengths[rate]);
+    }
+    EXPECT(s3_packets_of(12) == 0 && s3_packets_of(256 + 7) == 0 && s3_packets_of(UINT32_MAX) == 0);
+    EXPECT(s3_table_entries(12) == 0 && s3_table_entries(65536 + 7) == 0);
+    EXPECT(s3_table_entries(10) == S3_MOST_TABLE && S3_HEADER_OCTETS + 187 * s3_packets_of(11) == S3_MOST_SOURCE);
+    EXPECT(s3_source_octets(mixed, sizeof mixed) == MIXED_SOURCE && s3_source_octets(mixed, 5) == 0);
+    EXPECT(s3_tables_entries(mixed, sizeof mixed) == COUNT(tables) && s3_tables_entries(mixed, 3) == 0);
+    memset(area, FOUND, sizeof area);
+    EXPECT(s3_published_tables(mixed, 5, area, COUNT(tables)) == S3_PLAN);
+    EXPECT(s3_published_tables(mixed, sizeof mixed, area, COUNT(tables) - 1) == S3_LENGTH);
+    EXPECT(s3_published_tables(mixed, sizeof mixed, area, COUNT(tables) + 1) == S3_LENGTH);
+    EXPECT(untouched((const uint8_t *)area, sizeof area));
+    EXPECT(s3_published_tables(mixed, sizeof mixed, area, COUNT(tables)) == S3_ACCEPTED);
+    EXPECT(memcmp(area, tables, sizeof tables) == 0);
+}
+
+static int lies(const uint32_t *place, uint32_t group, uint32_t modulation, uint32_t rate, uint32_t data)
+{
+    return place[0] == group && place[1] == modulation && place[2] == rate && place[3] == data;
+}
+
+static void places(void)
+{
+    uint32_t place[5] = {9, 9, 9, 9, 9};
+#define PLACE(plan, slot, length) s3_place(mixed, plan, slot, place, length)
+    EXPECT(PLACE(6, 92, 4) == S3_ACCEPTED && lies(place, 0, 4, 7, 1));
+    EXPECT(PLACE(6, 93, 4) == S3_ACCEPTED && lies(place, 0, 4, 7, 0));
+    EXPECT(PLACE(6, 116, 4) == S3_ACCEPTED && lies(place, 1, 2, 3, 1));
+    EXPECT(PLACE(6, 120, 4) == S3_ACCEPTED && lies(place, 1, 2, 3, 0));
+    EXPECT(PLACE(6, 121, 4) == S3_FULL && lies(place, 0, 0, 0, 0));
+    place[0] = 9;
+    EXPECT(PLACE(6, 0, 4) == S3_PLAN && lies(place, 0, 0, 0, 0));
+    place[0] = 9;
+    EXPECT(PLACE(5, 121, 4) == S3_PLAN && lies(place, 0, 0, 0, 0));
+    EXPECT(PLACE(6, 256 + 1, 4) == S3_FULL && PLACE(6, UINT32_MAX, 4) == S3_FULL);
+    place[0] = place[3] = 9;
+    EXPECT(PLACE(6, 121, 3) == S3_FULL && PLACE(6, 1, 3) == S3_LENGTH && PLACE(6, 1, 5) == S3_LENGTH);
+    EXPECT(lies(place, 9, 0, 0, 9) && place[4] == 9);
+}
+
 static void opening(void)
 {
     static const uint8_t short_plan[] = {4, 7, 115}, no_fives[] = {4, 7, 116, 2, 3, 4}, rising[] = {2, 3, 5, 4, 7, 115};
@@ -211,6 +263,66 @@ static void reading_a_slot(void)
     EXPECT(s3_check_parity(1, table1, table - 1, slot1, 5609) == S3_LENGTH);
     EXPECT(s3_check_parity(12, table1, table, slot1, 5609) == S3_PLAN);
     EXPECT(s3_check_parity(65537, table1, table, slot1, sizeof slot1) == S3_PLAN);
+}
+
+/* Header and packets of source1, whose slot is slot1. */
+static uint8_t header1[S3_HEADER_OCTETS], packets1[10 * S3_PACKET_OCTETS];
+
+static void coding_packets(void)
+{
+    static uint8_t slot[S3_SLOT_OCTETS];
+    uint32_t next[2] = {7, 8};
+    const size_t plan = sizeof lowest, table = COUNT(table1);
+    memcpy(header1, source1, sizeof header1);
+    EXPECT(s3_unpack(1, source1 + 22, SOURCE_1 - 22, packets1, sizeof packets1) == S3_ACCEPTED);
+    memset(slot, FOUND, sizeof slot);
+#define CODE_PACKETS(plan, slot_number, held, length, header, octets, room, next_length)                                    \
+    s3_code_packets(lowest, plan, mask, start, slot_number, held, table1, length, header1, header, packets1, octets, slot, \
+                    room, next, next_length)
+    EXPECT(CODE_PACKETS(2, 1, 1, table, 22, 1880, 5610, 2) == S3_PLAN);
+    EXPECT(CODE_PACKETS(plan, 0, 1, table, 22, 1880, 5610, 2) == S3_PLAN);
+    EXPECT(CODE_PACKETS(plan, 121, 0, table, 22, 1880, 5610, 2) == S3_REGISTER);
+    EXPECT(CODE_PACKETS(plan, 65537, 1, table, 22, 1880, 5610, 2) == S3_FULL);
+    packets1[188] = 0x46;
+    EXPECT(CODE_PACKETS(plan, 1, 1, table, 22, 1879, 5610, 2) == S3_LENGTH);
+    EXPECT(CODE_PACKETS(plan, 1, 1, table - 1, 21, 1880, 5609, 1) == S3_SYNC);
+    packets1[188] = 0x47;
+    EXPECT(CODE_PACKETS(plan, 1, 1, table - 1, 21, 1880, 5610, 2) == S3_LENGTH);
+    EXPECT(CODE_PACKETS(plan, 1, 1, table - 1, 22, 1880, 5609, 2) == S3_LENGTH);
+    EXPECT(CODE_PACKETS(plan, 1, 1, table - 1, 22, 1880, 5610, 1) == S3_LENGTH);
+    EXPECT(CODE_PACKETS(plan, 1, 1, table - 1, 22, 1880, 5610, 2) == S3_TABLE);
+    EXPECT(untouched(slot, sizeof slot) && at(next, 7, 8));
+    EXPECT(CODE_PACKETS(plan, 1, 1, table, 22, 1880, 5610, 2) == S3_ACCEPTED && at(next, 2, 512));
+    EXPECT(memcmp(slot, slot1, sizeof slot) == 0);
+}
+
+static void reading_packets(void)
+{
+    static uint8_t header[S3_HEADER_OCTETS], back[sizeof packets1], damaged[S3_SLOT_OCTETS];
+    uint32_t next[2] = {7, 8};
+    const size_t plan = sizeof lowest, table = COUNT(table1);
+    memset(header, FOUND, sizeof header);
+    memset(back, FOUND, sizeof back);
+#define READ_PACKETS(slot, length, from, head, octets, next_length)                                                       \
+    s3_read_packets(lowest, plan, mask, start, slot, 1, table1, length, from, 5610, header, head, back, octets, next, \
+                    next_length)
+    EXPECT(READ_PACKETS(0, table, slot1, 22, 1880, 2) == S3_PLAN);
+    EXPECT(READ_PACKETS(121, table, slot1, 21, 1880, 2) == S3_FULL);
+    EXPECT(READ_PACKETS(1, table - 1, slot1, 21, 1880, 2) == S3_LENGTH);
+    EXPECT(READ_PACKETS(1, table - 1, slot1, 22, 1881, 2) == S3_LENGTH);
+    EXPECT(READ_PACKETS(1, table - 1, slot1, 22, 1880, 1) == S3_LENGTH);
+    EXPECT(READ_PACKETS(1, table - 1, slot1, 22, 1880, 2) == S3_TABLE);
+    EXPECT(at(next, 7, 8));
+    memcpy(damaged, slot1, sizeof damaged);
+    flip(damaged, 44879);
+    EXPECT(READ_PACKETS(1, table, damaged, 22, 1880, 2) == S3_PARITY && at(next, 2, 512));
+    memcpy(damaged, slot1, sizeof damaged);
+    flip(damaged, 176);
+    new_parity(damaged);
+    EXPECT(READ_PACKETS(2, table, damaged, 22, 1880, 2) == S3_BCH && at(next, 3, 512));
+    EXPECT(untouched(header, sizeof header) && untouched(back, sizeof back));
+    EXPECT(READ_PACKETS(1, table, slot1, 22, 1880, 2) == S3_ACCEPTED && at(next, 2, 512));
+    EXPECT(memcmp(header, header1, sizeof header) == 0 && memcmp(back, packets1, sizeof back) == 0);
 }
 
 static uint8_t sources[MIXED_SOURCE], frame[S3_FRAME_OCTETS];
@@ -378,11 +490,16 @@ static void packing(void)
 
 int main(void)
 {
+    words();
     published();
+    asking();
+    places();
     opening();
     passing();
     coding_a_slot();
     reading_a_slot();
+    coding_packets();
+    reading_packets();
     coding_a_frame();
     reading_a_frame();
     tmcc();

@@ -5,14 +5,13 @@
 
 #include "s3frame.h"
 
-enum { TABLE = 510, SOURCE = 120 * (22 + 187 * 26) };
-
-static uint16_t table[TABLE];
-static uint8_t source[SOURCE], back[SOURCE], frame[S3_FRAME_OCTETS], answers[S3_SLOTS];
+static uint16_t tables[S3_MOST_TABLE];
+static uint8_t source[S3_SLOTS * S3_MOST_SOURCE], back[S3_SLOTS * S3_MOST_SOURCE];
+static uint8_t frame[S3_FRAME_OCTETS], answers[S3_SLOTS];
 
 static void accepted(uint32_t number) {
     if (number != S3_ACCEPTED) {
-        fprintf(stderr, "refused %u\n", (unsigned)number);
+        fprintf(stderr, "refused %u %s\n", (unsigned)number, s3_word(number));
         exit(1);
     }
 }
@@ -20,14 +19,15 @@ static void accepted(uint32_t number) {
 int main(void) {
     const uint8_t plan[] = {5, 10, 120}; /* modulation, rate and slots of the one group */
     const uint32_t mask = 0x1234567, start = 1;
+    const size_t entries = s3_tables_entries(plan, sizeof plan), octets = s3_source_octets(plan, sizeof plan);
     unsigned counts[13] = {0};
 
-    for (size_t k = 0; k < SOURCE; k++)
+    for (size_t k = 0; k < octets; k++)
         source[k] = (uint8_t)(k % 251);
-    accepted(s3_published_table(10, table, TABLE));
-    accepted(s3_code_frame(plan, sizeof plan, mask, start, table, TABLE, source, SOURCE, frame, S3_FRAME_OCTETS));
+    accepted(s3_published_tables(plan, sizeof plan, tables, entries));
+    accepted(s3_code_frame(plan, sizeof plan, mask, start, tables, entries, source, octets, frame, S3_FRAME_OCTETS));
     frame[S3_SLOT_OCTETS] ^= 1; /* slot 2 */
-    accepted(s3_read_frame(plan, sizeof plan, mask, start, table, TABLE, frame, S3_FRAME_OCTETS, back, SOURCE, answers, S3_SLOTS));
+    accepted(s3_read_frame(plan, sizeof plan, mask, start, tables, entries, frame, S3_FRAME_OCTETS, back, octets, answers, S3_SLOTS));
 
     for (size_t k = 0; k < S3_SLOTS; k++)
         counts[answers[k]]++;
