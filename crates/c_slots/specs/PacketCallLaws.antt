@@ -7,7 +7,6 @@ use borrow.Author.Tests.{eq-eqb, ne-eqb}
 use lib.Dec.{eqb}
 use Rattle.lists.specs.Choice.{pick, andThen}
 use Rattle.lists.specs.ChoiceLaws.{then-zero, then-next, then-first, then-both}
-use Rattle.refusal.specs.Answers.{Answered}
 use Rattle.refusal.specs.AnswerLaws.{refused}
 use Rattle.plan.specs.declared.Plan.{Plan}
 use Rattle.plan.specs.declared.FrameState.{FrameState}
@@ -15,11 +14,11 @@ use Rattle.plan.specs.declared.Answer.{Answer}
 use Rattle.plan.specs.Records.{stateAt}
 use Rattle.plan.specs.States.{stateNumber}
 use Rattle.slot.specs.Slots.{slotOf}
-use Rattle.slot.specs.Calls.{rowsAt, dataNumber, nextState, codeAnswer, codeArea, readAnswer}
+use Rattle.slot.specs.Calls.{rowsAt, dataNumber, nextState, readAnswer}
 use Rattle.stream.specs.SlotPackets.{laid, laidNumber, roomNumber, sourceArea, codePacketsAnswer, codePacketsArea, slotAnswer, headerIn, packetsIn, readPacketsAnswer, readHeaderArea, readPacketsArea}
 use Rattle.stream.specs.SlotPacketsLaws.{lays, room}
 use Rattle.c_boundary.specs.Narrow.{narrowed}
-use Rattle.c_boundary.specs.Calls.{placed, nextNumber, slotCall, readCall, Coded}
+use Rattle.c_boundary.specs.Calls.{placed, nextNumber, slotCall, readCall}
 use Rattle.c_boundary.specs.CallLaws.{onward, place-given, code-good, read-is, place-left}
 use Rattle.c_slots.specs.PacketCalls.{codePacketsCall, roomCall, readPacketsCall, CodedPackets, ReceivedPackets}
 

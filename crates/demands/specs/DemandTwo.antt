@@ -28,6 +28,7 @@ use Rattle.slot.specs.Reading.{receivedNumber, GoodSlot, sourceOf}
 use Rattle.slot.specs.ReadingLaws.{received-good}
 use Rattle.slot.specs.Calls.{rowsAt}
 use Rattle.slot.specs.RoundTrips as slots
+use Rattle.stream.specs.Back as packets
 use Rattle.tmcc.specs.Blocks.{blockShape}
 use Rattle.tmcc.specs.BlockLaws.{fits as block-fits}
 use Rattle.tmcc.specs.Calls.{lentNumber as blockLentNumber, readNumber}
@@ -40,13 +41,23 @@ use Rattle.frame.specs.Frames.{rowsOfSlot, registerBefore, stateBefore, slotIn,
 use Rattle.frame.specs.FrameLaws.{at, sourceFrom-none, sourceFrom-more, data-long, length-slotIn, length-frameOf, length-sourcesOf, slot-at, answer-at, source-at}
 use Rattle.frame.specs.CallLaws.{Lent, frame-lent, frame-yes, read-lent, read-yes}
 use Rattle.frame.specs.SlotBySlot.{coded-to, read-to, taken, code-answer, code-area, read-answer, read-area, pass-answer}
-use Rattle.demands.specs.Statements.{SlotCodedThenRead, SlotReadThenCoded, SlotAccepted, FrameSlotAccepted, BlockAccepted, SlotMovesOn, PackedThenUnpacked, UnpackedThenPacked, FrameCodedThenRead, FrameReadThenCoded, FrameCodedBySlots, FrameReadBySlots, BlockCodedThenRead, BlockReadThenCoded, SlotLabelsBack, LabelsSlotBack, BlockLabelsBack, LabelsBlockBack}
+use Rattle.lookup.specs.LookupLaws.{tables-accepted}
+use Rattle.demands.specs.Statements.{SlotCodedThenRead, SlotReadThenCoded, PacketsCodedThenRead, PacketsReadThenCoded, PublishedTablesTaken, SlotAccepted, FrameSlotAccepted, BlockAccepted, SlotMovesOn, PackedThenUnpacked, UnpackedThenPacked, FrameCodedThenRead, FrameReadThenCoded, FrameCodedBySlots, FrameReadBySlots, BlockCodedThenRead, BlockReadThenCoded, SlotLabelsBack, LabelsSlotBack, BlockLabelsBack, LabelsBlockBack}
 
 pub slot-coded-then-read : SlotCodedThenRead
 slot-coded-then-read = slots.code-then-read
 
 pub slot-read-then-coded : SlotReadThenCoded
 slot-read-then-coded = slots.read-then-code
+
+pub packets-coded-then-read : PacketsCodedThenRead
+packets-coded-then-read = packets.packets-back
+
+pub packets-read-then-coded : PacketsReadThenCoded
+packets-read-then-coded = packets.slot-back
+
+pub published-tables-taken : PublishedTablesTaken
+published-tables-taken = tables-accepted
 
 pub slot-accepted : SlotAccepted
 slot-accepted s t coded source = (

@@ -23,7 +23,7 @@ use Rattle.ldpc.specs.Parity.{times, parityOf, Only}
 use Rattle.plan.specs.declared.Plan.{Plan}
 use Rattle.plan.specs.declared.FrameState.{FrameState}
 use Rattle.plan.specs.Rates.{rowsOf, packetsOf, symbolsOf}
-use Rattle.plan.specs.Plans.{modulationOf, rateOf}
+use Rattle.plan.specs.Plans.{modulationOf, rateOf, planNumber}
 use Rattle.plan.specs.Places.{groupAt, carries}
 use Rattle.plan.specs.Sizes.{slotOctets, slotWidth, blockOctets}
 use Rattle.plan.specs.Records.{planIn}
@@ -37,12 +37,14 @@ use Rattle.codeword.specs.Reading.{parityIn, takenOff, bchIn, Good, EvenTimes}
 use Rattle.slot.specs.Slots.{slotShape, registerAfter}
 use Rattle.slot.specs.Reading.{covered, parity, GoodSlot, MovesOn}
 use Rattle.slot.specs.Calls.{rowsAt, slotNumber, codeAnswer, codeArea, readAnswer, readArea, Answers}
+use Rattle.stream.specs.SlotPackets.{headerOctets, codePacketsAnswer, codePacketsArea, readPacketsAnswer, readHeaderArea, readPacketsArea, ReadBack}
 use Rattle.tmcc.specs.Blocks.{sourceOctets as tmccOctets, blockShape, messageOf, blockOf, sourceOf}
 use Rattle.tmcc.specs.Calls.{lentNumber as blockLentNumber, codeNumber, readNumber}
-use Rattle.frame.specs.Tables.{tableOf}
+use Rattle.frame.specs.Tables.{tableOf, tablesOk}
 use Rattle.frame.specs.Steps.{tableAt}
 use Rattle.frame.specs.Frames.{rowsOfSlot, registerBefore, stateBefore, slotIn, sourceIn, frameOf, answersOf, sourcesOf, frameNumber, readFrameNumber}
 use Rattle.frame.specs.Walks.{codedTo, readTo}
+use Rattle.lookup.specs.Lookups.{tablesOf}
 
 -- DEMAND 2, "Coding then reading returns header and data": a slot, at one state with one table
 abbrev pub SlotCodedThenRead : Type 0
@@ -57,6 +59,30 @@ SlotReadThenCoded =
     (s : FrameState) (t coded source out : List ℕ) → Octets coded → length out ≡ length coded
     → readAnswer s t coded source .number ≡ 0
     → Answers (codeAnswer s t (readArea s t coded source) out) (codeArea s t (readArea s t coded source) out) (readAnswer s t coded source .state) coded
+
+-- the same of header and packets: a slot coded from both gives both back, with the state that coding gave
+abbrev pub PacketsCodedThenRead : Type 0
+PacketsCodedThenRead =
+    (s : FrameState) (t header packets coded head found : List ℕ) → Octets header → Octets packets
+    → length head ≡ headerOctets → length found ≡ length packets
+    → codePacketsAnswer s t header packets coded .number ≡ 0
+    → let c = codePacketsArea s t header packets coded in
+    ReadBack (readPacketsAnswer s t c head found) (readHeaderArea s t c head found) (readPacketsArea s t c head found)
+    (codePacketsAnswer s t header packets coded .state) header packets
+
+-- and a slot that was accepted, coded again from the header and packets that were read, returns its octets
+abbrev pub PacketsReadThenCoded : Type 0
+PacketsReadThenCoded =
+    (s : FrameState) (t coded head found out : List ℕ) → Octets coded → length out ≡ length coded
+    → readPacketsAnswer s t coded head found .number ≡ 0
+    → let h = readHeaderArea s t coded head found in
+    let p = readPacketsArea s t coded head found in
+    Answers (codePacketsAnswer s t h p out) (codePacketsArea s t h p out) (readPacketsAnswer s t coded head found .state) coded
+
+-- "In a whole-frame call the groups' tables follow each other in group order": the published ones of an accepted plan are
+-- tables that no whole-frame call refuses
+abbrev pub PublishedTablesTaken : Type 0
+PublishedTablesTaken = (p : Plan) → planNumber p ≡ 0 → tablesOk p (tablesOf p) ≡ true
 
 -- "Reading accepts only what passes all checks", and all that does: a slot is answered 0 exactly when nothing that comes
 -- before the slot itself refuses the call, its parity and BCH bits are right, and its stuff bits are ones

@@ -1,6 +1,6 @@
 -- Laws of what is asked of a plan: a slot that has a place, the published tables group by group, and that whole-frame calls
 -- take them.
-use mathlib.Core.Path.{_≡_, sym, ap, _∙_}
+use mathlib.Core.Path.{_≡_, sym, _∙_}
 use mathlib.Core.Bool.{true}
 use mathlib.Core.List.{List}
 use Prim.Native.Nat.{ℕ, _+_, _-_, _≤_, _<_}
@@ -17,11 +17,10 @@ use Rattle.lists.specs.FillingLaws.{filling-part}
 use Rattle.lists.specs.Parts.{part}
 use Rattle.lists.specs.PartLaws.{length-part}
 use Rattle.refusal.specs.Answers.{Answered}
-use Rattle.parity_table.specs.Tables.{tableOk}
 use Rattle.refusal.specs.Numbers.{PLAN, FULL}
 use Rattle.plan.specs.declared.Plan.{Plan}
 use Rattle.plan.specs.Needs.{SlotOf}
-use Rattle.plan.specs.Rates.{rateOk, rowsOf}
+use Rattle.plan.specs.Rates.{rateOk}
 use Rattle.plan.specs.RateLaws.{between}
 use Rattle.plan.specs.Plans.{rateOf, planNumber}
 use Rattle.plan.specs.PlanLaws.{accepted, group-values}

@@ -6,7 +6,6 @@ use lib.ListN.{length}
 use Rattle.plan.specs.declared.FrameState.{FrameState}
 use Rattle.plan.specs.Rates.{dataOctetsOf}
 use Rattle.packets.specs.Packets.{packNumber}
-use Rattle.slot.specs.Calls.{dataNumber}
 use Rattle.stream.specs.SlotPackets.{headerOctets, rateAt, laidNumber, roomNumber}
 
 -- packets that packing takes and a header, and an area for header and data octets of a rate

@@ -1,5 +1,6 @@
 -- A slot coded from its header and packets, and read into both: packing (document 01, "Rates and slot") and the slot calls
 -- ("Refusal list") one behind the other.
+use mathlib.Core.Path.{_≡_}
 use mathlib.Core.Bool.{_&&_}
 use mathlib.Core.List.{List, _++_}
 use Prim.Native.Nat.{ℕ, _*_}
@@ -79,3 +80,10 @@ readHeaderArea s t coded header packets = pick (eqb (readPacketsAnswer s t coded
 
 unfoldable pub readPacketsArea : FrameState → List ℕ → List ℕ → List ℕ → List ℕ → List ℕ
 readPacketsArea s t coded header packets = pick (eqb (readPacketsAnswer s t coded header packets .number) 0) (packetsIn s coded) packets
+
+-- that reading answers 0 with this state, and leaves this header and these packets in its areas
+pub record ReadBack (a : Answer) (head area : List ℕ) (next : FrameState) (header packets : List ℕ) : Type 0 where
+  pub number : a .number ≡ 0
+  pub state : a .state ≡ next
+  pub header-is : head ≡ header
+  pub packets-are : area ≡ packets

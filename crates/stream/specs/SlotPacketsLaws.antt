@@ -8,7 +8,7 @@ use borrow.Author.Tests.{eq-eqb, eqb-true}
 use lib.Dec.{eqb}
 use lib.ListN.{length, take, replicate, length-replicate}
 use lib.Seq.{length-take-le}
-use Rattle.lists.specs.ChoiceLaws.{and-left, and-right, then-zero, not-refused}
+use Rattle.lists.specs.ChoiceLaws.{and-left, and-right, then-zero, then-both, not-refused}
 use Rattle.refusal.specs.Numbers.{LENGTH}
 use Rattle.plan.specs.Sizes.{mostSource}
 use Rattle.plan.specs.Records.{planIn}
@@ -73,6 +73,11 @@ lays s header packets h =
     let a = then-zero (dataNumber s) _ h in
     let b = then-zero (packNumber (rateAt s) packets (dataOctetsOf (rateAt s))) _ (a .1) in
     record { place = a .0; packs = b .0; long = eqb-true (length header) _ (not-refused (eqb (length header) headerOctets) LENGTH (omega arith) (b .1)) }
+
+pub laid-for : (s : FrameState) (header packets : List ℕ) → Laid s header packets → laidNumber s header packets ≡ 0
+unfolding laidNumber
+laid-for s header packets h =
+    then-both (dataNumber s) _ (h .place) (then-both (packNumber (rateAt s) packets (dataOctetsOf (rateAt s))) _ (h .packs) (rw (eq-eqb (length header) headerOctets (h .long))))
 
 -- of the area that reading is lent only the length counts
 pub slot-answer : (s : FrameState) (t coded source : List ℕ) → length source ≡ 22 + dataOctetsOf (rateAt s)

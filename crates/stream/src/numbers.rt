@@ -27,10 +27,10 @@ pub fn laid_number(state: FrameState, header: &[u8], packets: &[u8]) -> u8
     if refused != 0 {
         return refused;
     }
-    if header.len() == HEADER {
-        return 0;
+    if header.len() != HEADER {
+        return refusal::LENGTH;
     }
-    refusal::LENGTH
+    0
 }
 
 // The refusal of a state, of a dummy at its next slot, or of areas for another header or other packets than the slot has,

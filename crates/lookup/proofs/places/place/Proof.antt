@@ -1,9 +1,8 @@
 -- `lookup::place`: the number decides between the slot's place and none.
-use mathlib.Core.Path.{_≡_, sym, ap, _∙_}
+use mathlib.Core.Path.{sym, ap, _∙_}
 use borrow.Author.Needs.{needs}
 use borrow.Author.Tests.{eq-eqb, ne-eqb}
-use Rattle.plan.specs.Places.{placeOf}
-use Rattle.lookup.specs.Lookups.{placeNumber, placed}
+use Rattle.lookup.specs.Lookups.{placed}
 use Rattle.lookup.specs.LookupLaws.{slot-there}
 use Rattle.lookup.proofs.places.place.Statement.{statement}
 use Rattle.lookup.proofs.places.place.Tie as tie

@@ -35,13 +35,13 @@ returns-3 : tie.Need-returns-3
 unfolding laidNumber
 returns-3 c =
     let p = c .before .before in
-    sym (then-next _ _ (place (p .before .before .before)) ∙ then-next _ _ (sym (packs p) ∙ c .before .if2 .left) ∙ rw (eq-eqb _ 22 (c .if3 .taken)))
+    sym (then-next _ _ (place (p .before .before .before)) ∙ then-next _ _ (sym (packs p) ∙ c .before .if2 .left) ∙ rw (ne-eqb _ 22 (c .if3 .taken)))
 
 returns-4 : tie.Need-returns-4
 unfolding laidNumber
 returns-4 c =
     let p = c .before .before in
-    sym (then-next _ _ (place (p .before .before .before)) ∙ then-next _ _ (sym (packs p) ∙ c .before .if2 .left) ∙ rw (ne-eqb _ 22 (c .if3 .left)))
+    sym (then-next _ _ (place (p .before .before .before)) ∙ then-next _ _ (sym (packs p) ∙ c .before .if2 .left) ∙ rw (eq-eqb _ 22 (c .if3 .left)))
 
 pub laid-number-spec : {M : Type 1} → statement M
 laid-number-spec =
