@@ -1,0 +1,35 @@
+//! Signals that end a run, which must leave no unfinished file behind.
+use signal_hook::consts::{SIGINT, SIGTERM};
+use signal_hook::iterator::Signals;
+use signal_hook::low_level::emulate_default_handler;
+use std::path::PathBuf;
+use std::sync::{Mutex, PoisonError};
+use std::{fs, io, thread};
+
+/// The folders that hold unfinished files; those that are gone again do no harm.
+static UNFINISHED: Mutex<Vec<PathBuf>> = Mutex::new(Vec::new());
+
+/// Does work on the list of unfinished folders that no signal may come between.
+pub fn undisturbed<T>(work: impl FnOnce(&mut Vec<PathBuf>) -> T) -> T {
+    work(&mut UNFINISHED.lock().unwrap_or_else(PoisonError::into_inner))
+}
+
+/// Removes what is unfinished, and ends the process as the signal would have. The list stays locked, so that nothing is
+/// begun or renamed meanwhile.
+fn end(signal: i32) {
+    undisturbed(|folders| {
+        for folder in folders.iter() {
+            // It may be gone, and there is no one left to be told.
+            let _ = fs::remove_dir_all(folder);
+        }
+        emulate_default_handler(signal)
+    })
+    .expect("the signals below end a process");
+}
+
+/// Watches, from now on, for the signals that end a run.
+pub fn watch() -> io::Result<()> {
+    let mut signals = Signals::new([SIGINT, SIGTERM])?;
+    thread::spawn(move || signals.forever().for_each(end));
+    Ok(())
+}
