@@ -2,29 +2,37 @@
 //! prints how often each answer came.
 //!
 //!     cargo run --release --offline --example one_frame
-use s3frame::{code_frame, read_frame, Group, Plan, Refusal, Settings};
-use s3frame::{FRAME_OCTETS, FRAME_SLOTS, SLOT_OCTETS};
+use s3frame::{code_frame, read_frame, Group, Modulation, Plan, Rate, Refusal, SlotAnswer, SlotSettings};
+use s3frame::{FRAME_OCTETS, SLOT_OCTETS};
+
+const GROUPS: [Group; 2] = [
+    Group { modulation: Modulation::Apsk16, rate: Rate::R7_9, slots: 115 },
+    Group { modulation: Modulation::Qpsk, rate: Rate::R1_2, slots: 5 },
+];
 
 /// Our copies of the document lost the drawing of the register, so that these are an example's.
-const SETTINGS: Settings = Settings { mask: 0x123_4567, start: 1 };
+const SETTINGS: SlotSettings = SlotSettings { mask: 0x123_4567, start: 1 };
 
-/// What an answer octet says.
-fn meaning(answer: u8) -> String {
-    match Refusal::from_number(answer.into()) {
-        None => "read".to_string(),
-        Some(refusal) => refusal.word().to_string(),
+/// Document 01's number of an answer, and what it says.
+fn meaning(answer: SlotAnswer) -> (u32, &'static str) {
+    match answer {
+        SlotAnswer::Read => (0, "read"),
+        SlotAnswer::Dummy => (Refusal::Dummy.number(), Refusal::Dummy.word()),
+        SlotAnswer::Refused(refusal) => (refusal.number(), refusal.word()),
     }
 }
 
-fn print_counts(answers: &[u8]) {
-    for answer in [0, 2, 8, 9, 10] {
+fn print_counts(answers: &[SlotAnswer]) {
+    let refused = [Refusal::Parity, Refusal::Bch, Refusal::Stuff].map(SlotAnswer::Refused);
+    for answer in [SlotAnswer::Read, SlotAnswer::Dummy].into_iter().chain(refused) {
         let count = answers.iter().filter(|&&other| other == answer).count();
-        println!("answer {answer:2} {:6} {count:3} slots", meaning(answer));
+        let (number, word) = meaning(answer);
+        println!("answer {number:2} {word:6} {count:3} slots");
     }
 }
 
 fn main() -> Result<(), Refusal> {
-    let plan = Plan::new(&[Group::new(4, 7, 115), Group::new(2, 3, 5)])?;
+    let plan = Plan::new(&GROUPS)?;
     let tables = plan.published_tables();
     let source: Vec<u8> = (0..plan.source_octets()).map(|k| (k % 251) as u8).collect();
 
@@ -34,9 +42,9 @@ fn main() -> Result<(), Refusal> {
     frame[SLOT_OCTETS] ^= 1;
     frame[99 * SLOT_OCTETS] ^= 1;
 
-    let (mut back, mut answers) = (vec![0; source.len()], vec![0; FRAME_SLOTS]);
-    read_frame(&plan, SETTINGS, &tables, &frame, &mut back, &mut answers)?;
-    print_counts(&answers);
+    let mut back = vec![0; source.len()];
+    let read = read_frame(&plan, SETTINGS, &tables, &frame, &mut back)?;
+    print_counts(&read.answers);
     let same = back.iter().zip(&source).filter(|(read, coded)| read == coded).count();
     println!("{same} of {} octets came back", source.len());
     Ok(())

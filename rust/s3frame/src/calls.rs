@@ -6,7 +6,8 @@
 //! written overlaps another.
 //!
 //! A plan is lent as three octets for each group: modulation, rate, slots. `next` takes two numbers, the next slot and its
-//! register. Each call's numbers are listed in the order in which they are tested.
+//! register. Each call's numbers are listed in the order in which they are tested; slot number 0 is 1 wherever a slot is
+//! named.
 
 extern "C" {
     fn s3_open(plan: *const u8, plan_length: usize, mask: u32, start: u32, next: *mut u32, next_length: usize) -> u32;
@@ -121,6 +122,58 @@ extern "C" {
     fn s3_pack(rate: u32, packets: *const u8, packets_length: usize, data: *mut u8, data_length: usize) -> u32;
     fn s3_unpack(rate: u32, data: *const u8, data_length: usize, packets: *mut u8, packets_length: usize) -> u32;
     fn s3_published_table(rate: u32, table: *mut u16, table_length: usize) -> u32;
+    fn s3_packets_of(rate: u32) -> u32;
+    fn s3_table_entries(rate: u32) -> u32;
+    fn s3_source_octets(plan: *const u8, plan_length: usize) -> u64;
+    fn s3_tables_entries(plan: *const u8, plan_length: usize) -> u64;
+    fn s3_published_tables(plan: *const u8, plan_length: usize, tables: *mut u16, tables_length: usize) -> u32;
+    fn s3_place(plan: *const u8, plan_length: usize, slot: u32, place: *mut u32, place_length: usize) -> u32;
+    fn s3_code_packets(
+        plan: *const u8,
+        plan_length: usize,
+        mask: u32,
+        start: u32,
+        slot: u32,
+        register: u32,
+        table: *const u16,
+        table_length: usize,
+        header: *const u8,
+        header_length: usize,
+        packets: *const u8,
+        packets_length: usize,
+        coded: *mut u8,
+        coded_length: usize,
+        next: *mut u32,
+        next_length: usize,
+    ) -> u32;
+    fn s3_read_packets(
+        plan: *const u8,
+        plan_length: usize,
+        mask: u32,
+        start: u32,
+        slot: u32,
+        register: u32,
+        table: *const u16,
+        table_length: usize,
+        coded: *const u8,
+        coded_length: usize,
+        header: *mut u8,
+        header_length: usize,
+        packets: *mut u8,
+        packets_length: usize,
+        next: *mut u32,
+        next_length: usize,
+    ) -> u32;
+}
+
+/// A state as it is handed over: the plan, the settings, the next slot and the register there.
+#[derive(Clone, Copy)]
+pub struct At<'a> {
+    pub plan: &'a [u8],
+    pub mask: u32,
+    pub start: u32,
+    pub slot: u32,
+    pub register: u32,
 }
 
 /// Opens a frame. A refusal writes two zeros into a `next` of two numbers. Numbers: 1, 6, 4.
@@ -129,23 +182,14 @@ pub fn open(plan: &[u8], mask: u32, start: u32, next: &mut [u32]) -> u32 {
 }
 
 /// Passes a dummy. Numbers: 1, 6, 3, 2, 4.
-pub fn pass(plan: &[u8], mask: u32, start: u32, slot: u32, register: u32, next: &mut [u32]) -> u32 {
+pub fn pass(at: At, next: &mut [u32]) -> u32 {
+    let At { plan, mask, start, slot, register } = at;
     unsafe { s3_pass(plan.as_ptr(), plan.len(), mask, start, slot, register, next.as_mut_ptr(), next.len()) }
 }
 
 /// Codes a slot. Numbers: 1, 6, 3, 2, 4, 5.
-#[allow(clippy::too_many_arguments)]
-pub fn code_slot(
-    plan: &[u8],
-    mask: u32,
-    start: u32,
-    slot: u32,
-    register: u32,
-    table: &[u16],
-    source: &[u8],
-    coded: &mut [u8],
-    next: &mut [u32],
-) -> u32 {
+pub fn code_slot(at: At, table: &[u16], source: &[u8], coded: &mut [u8], next: &mut [u32]) -> u32 {
+    let At { plan, mask, start, slot, register } = at;
     unsafe {
         s3_code_slot(
             plan.as_ptr(),
@@ -167,18 +211,8 @@ pub fn code_slot(
 }
 
 /// Reads a slot; 8, 9 and 10 move on. Numbers: 1, 6, 3, 2, 4, 5, 8, 9, 10.
-#[allow(clippy::too_many_arguments)]
-pub fn read_slot(
-    plan: &[u8],
-    mask: u32,
-    start: u32,
-    slot: u32,
-    register: u32,
-    table: &[u16],
-    coded: &[u8],
-    source: &mut [u8],
-    next: &mut [u32],
-) -> u32 {
+pub fn read_slot(at: At, table: &[u16], coded: &[u8], source: &mut [u8], next: &mut [u32]) -> u32 {
+    let At { plan, mask, start, slot, register } = at;
     unsafe {
         s3_read_slot(
             plan.as_ptr(),
@@ -193,6 +227,63 @@ pub fn read_slot(
             coded.len(),
             source.as_mut_ptr(),
             source.len(),
+            next.as_mut_ptr(),
+            next.len(),
+        )
+    }
+}
+
+/// Codes a slot from header and packets. Numbers: 1, 6, 3, 2, 4 (packets), 7, 4 (the others), 5.
+pub fn code_packets(at: At, table: &[u16], header: &[u8], packets: &[u8], coded: &mut [u8], next: &mut [u32]) -> u32 {
+    let At { plan, mask, start, slot, register } = at;
+    unsafe {
+        s3_code_packets(
+            plan.as_ptr(),
+            plan.len(),
+            mask,
+            start,
+            slot,
+            register,
+            table.as_ptr(),
+            table.len(),
+            header.as_ptr(),
+            header.len(),
+            packets.as_ptr(),
+            packets.len(),
+            coded.as_mut_ptr(),
+            coded.len(),
+            next.as_mut_ptr(),
+            next.len(),
+        )
+    }
+}
+
+/// Reads a slot into header and packets; 8, 9 and 10 move on. Numbers: 1, 6, 3, 2, 4, 5, 8, 9, 10.
+pub fn read_packets(
+    at: At,
+    table: &[u16],
+    coded: &[u8],
+    header: &mut [u8],
+    packets: &mut [u8],
+    next: &mut [u32],
+) -> u32 {
+    let At { plan, mask, start, slot, register } = at;
+    unsafe {
+        s3_read_packets(
+            plan.as_ptr(),
+            plan.len(),
+            mask,
+            start,
+            slot,
+            register,
+            table.as_ptr(),
+            table.len(),
+            coded.as_ptr(),
+            coded.len(),
+            header.as_mut_ptr(),
+            header.len(),
+            packets.as_mut_ptr(),
+            packets.len(),
             next.as_mut_ptr(),
             next.len(),
         )
@@ -315,4 +406,35 @@ pub fn unpack(rate: u32, data: &[u8], packets: &mut [u8]) -> u32 {
 /// Copies the published table of a rate into an area of its length. Numbers: 1, 4.
 pub fn published_table(rate: u32, table: &mut [u16]) -> u32 {
     unsafe { s3_published_table(rate, table.as_mut_ptr(), table.len()) }
+}
+
+/// The packets of a slot of a rate; 0 for an unknown rate.
+pub fn packets_of(rate: u32) -> u32 {
+    unsafe { s3_packets_of(rate) }
+}
+
+/// The entries of the published table of a rate; 0 for an unknown rate.
+pub fn table_entries(rate: u32) -> u32 {
+    unsafe { s3_table_entries(rate) }
+}
+
+/// The header and data octets of all data slots of a plan; 0 where the plan is refused.
+pub fn source_octets(plan: &[u8]) -> u64 {
+    unsafe { s3_source_octets(plan.as_ptr(), plan.len()) }
+}
+
+/// The entries of the published tables of a plan's groups; 0 where the plan is refused.
+pub fn tables_entries(plan: &[u8]) -> u64 {
+    unsafe { s3_tables_entries(plan.as_ptr(), plan.len()) }
+}
+
+/// Copies the published tables of a plan's groups, in group order. Numbers: 1, 4.
+pub fn published_tables(plan: &[u8], tables: &mut [u16]) -> u32 {
+    unsafe { s3_published_tables(plan.as_ptr(), plan.len(), tables.as_mut_ptr(), tables.len()) }
+}
+
+/// What a slot is, as four numbers: its group from 0, the modulation, the rate, and 1 where it carries data. A refusal writes
+/// zeros into a `place` of four numbers. Numbers: 1, 3, 4.
+pub fn place(plan: &[u8], slot: u32, place: &mut [u32]) -> u32 {
+    unsafe { s3_place(plan.as_ptr(), plan.len(), slot, place.as_mut_ptr(), place.len()) }
 }

@@ -1,6 +1,36 @@
 //! A whole frame in one area.
 use crate::refusal::answer;
-use crate::{calls, Plan, Refusal, Settings};
+use crate::{calls, Plan, Refusal, SlotSettings, SLOTS};
+
+/// What became of a slot of a frame that was read.
+#[derive(Clone, Copy, Debug, PartialEq, Eq, Hash)]
+pub enum SlotAnswer {
+    /// Its header and data are in their places.
+    Read,
+    /// It is a dummy, and has no places.
+    Dummy,
+    /// [`Refusal::Parity`], [`Refusal::Bch`] or [`Refusal::Stuff`]: its places are as they were.
+    Refused(Refusal),
+}
+
+impl SlotAnswer {
+    fn of_octet(octet: u8) -> SlotAnswer {
+        match answer(octet.into()) {
+            Ok(()) => SlotAnswer::Read,
+            Err(Refusal::Dummy) => SlotAnswer::Dummy,
+            Err(refusal) => SlotAnswer::Refused(refusal),
+        }
+    }
+}
+
+/// What reading a whole frame gives beside the source.
+#[derive(Clone, Debug, PartialEq, Eq)]
+#[non_exhaustive]
+#[must_use]
+pub struct FrameRead {
+    /// The answers of the slots, slot 1 first.
+    pub answers: [SlotAnswer; SLOTS],
+}
 
 /// Codes a whole frame of [`FRAME_OCTETS`](crate::FRAME_OCTETS), slot s from octet 5,610 (s - 1) on. The dummies' parts stay
 /// as they are. `source` has [`Plan::source_octets`]; `tables` are the groups' parity tables in group order.
@@ -8,28 +38,25 @@ use crate::{calls, Plan, Refusal, Settings};
 /// Refused: [`Refusal::Register`], [`Refusal::Length`], [`Refusal::Table`]; `frame` is then as it was.
 pub fn code_frame(
     plan: &Plan,
-    settings: Settings,
+    settings: SlotSettings,
     tables: &[u16],
     source: &[u8],
     frame: &mut [u8],
 ) -> Result<(), Refusal> {
-    let Settings { mask, start } = settings;
-    answer(calls::code_frame(plan.octets(), mask, start, tables, source, frame))
+    answer(calls::code_frame(plan.octets(), settings.mask, settings.start, tables, source, frame))
 }
 
-/// Reads a whole frame, and writes into [`FRAME_SLOTS`](crate::FRAME_SLOTS) answers what became of each slot: 0 read, 2 a
-/// dummy, or the number of [`Refusal::Parity`], [`Refusal::Bch`] or [`Refusal::Stuff`], where the slot's places in `source`
-/// stay as they are. The lengths are those of [`code_frame`].
+/// Reads a whole frame, and says what became of each slot. The lengths are those of [`code_frame`].
 ///
-/// Refused: [`Refusal::Register`], [`Refusal::Length`], [`Refusal::Table`]; both areas are then as they were.
+/// Refused: [`Refusal::Register`], [`Refusal::Length`], [`Refusal::Table`]; `source` is then as it was.
 pub fn read_frame(
     plan: &Plan,
-    settings: Settings,
+    settings: SlotSettings,
     tables: &[u16],
     frame: &[u8],
     source: &mut [u8],
-    answers: &mut [u8],
-) -> Result<(), Refusal> {
-    let Settings { mask, start } = settings;
-    answer(calls::read_frame(plan.octets(), mask, start, tables, frame, source, answers))
+) -> Result<FrameRead, Refusal> {
+    let mut answers = [0; SLOTS];
+    answer(calls::read_frame(plan.octets(), settings.mask, settings.start, tables, frame, source, &mut answers))?;
+    Ok(FrameRead { answers: answers.map(SlotAnswer::of_octet) })
 }

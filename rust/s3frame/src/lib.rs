@@ -1,20 +1,22 @@
 //! The proved ISDB-S3 slot framer and its reader, for Rust.
 //!
-//! The work is done by an archive of functions that are proved for every input; this crate declares them ([`calls`]) and
-//! puts types around them. It computes nothing of a slot itself. Every area is lent by the caller and must have exactly
-//! the length that is said; a refusal changes no lent area, and says by its word ([`Refusal`]) what was wrong.
+//! The work is done by an archive of functions that are proved for every input; this crate puts types around them, and
+//! computes nothing of a slot itself. Every area is lent by the caller and must have exactly the length that is said; a
+//! refusal changes no lent area, and says by its word ([`Refusal`]) what was wrong.
 //!
 //! ```
-//! use s3frame::{FrameState, Group, Plan, Settings};
+//! use s3frame::{FrameState, Group, Modulation, Plan, Rate, SlotSettings};
 //!
 //! # fn main() -> Result<(), s3frame::Refusal> {
-//! let plan = Plan::new(&[Group::new(4, 7, 115), Group::new(2, 3, 5)])?;
-//! let settings = Settings { mask: 1 << 24 | 1, start: 1 };
-//! let table = s3frame::published_table(7)?;
-//! let source = vec![0; s3frame::source_octets(7)?];
+//! let plan = Plan::new(&[
+//!     Group { modulation: Modulation::Apsk16, rate: Rate::R7_9, slots: 115 },
+//!     Group { modulation: Modulation::Qpsk, rate: Rate::R1_2, slots: 5 },
+//! ])?;
+//! let opened = FrameState::open(plan, SlotSettings { mask: 1 << 24 | 1, start: 1 })?;
+//! let rate = plan.place(opened.slot())?.rate;
+//! let table = rate.published_table();
+//! let source = vec![0; rate.source_octets()];
 //! let mut slot = vec![0; s3frame::SLOT_OCTETS];
-//!
-//! let opened = FrameState::open(plan, settings)?;
 //! let next = opened.code_slot(&table, &source, &mut slot)?;
 //! assert_eq!(next.slot(), 2);
 //!
@@ -29,24 +31,29 @@
 #![warn(missing_docs)]
 
 #[allow(unsafe_code)]
-pub mod calls;
+mod calls;
 mod frame;
 mod lengths;
+mod modulation;
+mod numbered;
 mod packets;
 mod plan;
+mod rate;
 mod refusal;
 mod state;
 mod symbols;
 mod tmcc;
 
-pub use frame::{code_frame, read_frame};
-pub use lengths::{data_octets, label_count, packet_count, packet_octets, source_octets, table_length};
+pub use frame::{code_frame, read_frame, FrameRead, SlotAnswer};
 pub use lengths::{
-    FRAME_OCTETS, FRAME_SLOTS, HEADER_OCTETS, SLOT_OCTETS, TMCC_LABELS, TMCC_OCTETS, TMCC_RATE, TMCC_SOURCE_OCTETS,
+    BLOCK_LABELS, BLOCK_OCTETS, FRAME_OCTETS, HEADER_OCTETS, MOST_SOURCE, MOST_TABLE, PACKET_OCTETS, SLOTS,
+    SLOT_OCTETS, TMCC_OCTETS,
 };
-pub use packets::{pack, published_table, unpack};
-pub use plan::{Group, Plan};
+pub use modulation::Modulation;
+pub use packets::{pack, unpack};
+pub use plan::{Group, Place, Plan};
+pub use rate::Rate;
 pub use refusal::Refusal;
-pub use state::{check_parity, FrameState, Settings, SlotRead};
-pub use symbols::{block_of_labels, labels_of_block, labels_of_slot, slot_of_labels};
-pub use tmcc::{code_tmcc, read_tmcc};
+pub use state::{check_parity, FrameState, SlotRead, SlotSettings};
+pub use symbols::{labels, slot_of_labels, tmcc_labels, tmcc_of_labels};
+pub use tmcc::{code_tmcc, read_tmcc, TmccSettings};

@@ -1,64 +1,28 @@
 //! Document 01's refusals.
+use crate::numbered::numbered;
 use std::error::Error;
 use std::fmt;
 
-/// Why a call was refused: document 01's twelve words, with its numbers.
-#[derive(Clone, Copy, Debug, PartialEq, Eq, Hash, PartialOrd, Ord)]
-#[repr(u8)]
-pub enum Refusal {
-    /// The plan breaks a rule; in a lone call, modulation or rate is unknown; or a state's slot number is 0.
-    Plan = 1,
-    /// A data call at a dummy, or a pass at a data slot.
-    Dummy = 2,
-    /// Slot 120 is past.
-    Full = 3,
-    /// A lent area isn't exactly its length.
-    Length = 4,
-    /// The parity table breaks its form.
-    Table = 5,
-    /// The start, or the register in a state, is 0 or too wide; the mask is too wide or lacks the top weight.
-    Register = 6,
-    /// A TS packet doesn't begin 0x47.
-    Sync = 7,
-    /// Some LDPC parity bit is wrong.
-    Parity = 8,
-    /// BCH bits are wrong after dispersal is taken off.
-    Bch = 9,
-    /// Stuff bits are not all ones after dispersal is taken off.
-    Stuff = 10,
-    /// One of the last two TMCC bits is 1.
-    Tail = 11,
-    /// A symbol is 2^modulation or more.
-    Label = 12,
+numbered! {
+    /// Why a call was refused: document 01's twelve words, with its numbers.
+    #[non_exhaustive]
+    Refusal {
+        Plan = 1 "the plan breaks a rule, or the slot number is 0",
+        Dummy = 2 "a data call at a dummy, or a pass at a data slot",
+        Full = 3 "slot 120 is past",
+        Length = 4 "a lent area isn't exactly its length",
+        Table = 5 "the parity table breaks its form",
+        Register = 6 "start or register is 0 or too wide, or the mask is too wide or lacks the top weight",
+        Sync = 7 "a TS packet doesn't begin 0x47",
+        Parity = 8 "some LDPC parity bit is wrong",
+        Bch = 9 "BCH bits are wrong after dispersal is taken off",
+        Stuff = 10 "stuff bits are not all ones after dispersal is taken off",
+        Tail = 11 "one of the last two TMCC bits is 1",
+        Label = 12 "a symbol is 2^modulation or more",
+    }
 }
 
 impl Refusal {
-    /// All twelve, by their numbers.
-    pub const ALL: [Refusal; 12] = [
-        Refusal::Plan,
-        Refusal::Dummy,
-        Refusal::Full,
-        Refusal::Length,
-        Refusal::Table,
-        Refusal::Register,
-        Refusal::Sync,
-        Refusal::Parity,
-        Refusal::Bch,
-        Refusal::Stuff,
-        Refusal::Tail,
-        Refusal::Label,
-    ];
-
-    /// The refusal of a number; none for 0, which is accepted, and for numbers that no call answers.
-    pub fn from_number(number: u32) -> Option<Refusal> {
-        Refusal::ALL.into_iter().find(|refusal| refusal.number() == number)
-    }
-
-    /// Document 01's number, 1 to 12.
-    pub fn number(self) -> u32 {
-        self as u32
-    }
-
     /// Document 01's word.
     pub fn word(self) -> &'static str {
         match self {
@@ -78,10 +42,10 @@ impl Refusal {
     }
 }
 
-/// As `refused 4 length`.
+/// Number, word and what it means, as `refused 3 full: slot 120 is past`.
 impl fmt::Display for Refusal {
     fn fmt(&self, f: &mut fmt::Formatter<'_>) -> fmt::Result {
-        write!(f, "refused {} {}", self.number(), self.word())
+        write!(f, "refused {} {}: {}", self.number(), self.word(), self.text())
     }
 }
 
@@ -103,6 +67,7 @@ mod tests {
     fn the_numbers_and_words_of_document_01() {
         let words =
             ["plan", "dummy", "full", "length", "table", "register", "sync", "parity", "BCH", "stuff", "tail", "label"];
+        assert_eq!(words.len(), Refusal::ALL.len());
         for (number, word) in (1..).zip(words) {
             let refusal = Refusal::from_number(number).expect("a refusal");
             assert_eq!((refusal.number(), refusal.word()), (number, word));
@@ -113,7 +78,8 @@ mod tests {
     }
 
     #[test]
-    fn a_refusal_prints_its_number_and_word() {
-        assert_eq!(Refusal::Bch.to_string(), "refused 9 BCH");
+    fn a_refusal_prints_its_number_its_word_and_what_it_means() {
+        assert_eq!(Refusal::Length.to_string(), "refused 4 length: a lent area isn't exactly its length");
+        assert_eq!(Refusal::Bch.to_string(), "refused 9 BCH: BCH bits are wrong after dispersal is taken off");
     }
 }

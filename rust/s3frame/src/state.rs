@@ -1,11 +1,12 @@
 //! A frame slot by slot.
+use crate::calls::{self, At};
 use crate::refusal::answer;
-use crate::{calls, Plan, Refusal};
+use crate::{Plan, Rate, Refusal};
 
-/// The settings of a dispersal register.
-#[derive(Clone, Copy, Debug, PartialEq, Eq)]
-pub struct Settings {
-    /// The tap mask: it has the register's top weight, 2^24 for slots and 2^14 for TMCC blocks, and nothing above.
+/// The settings of the 25-bit dispersal register of slots.
+#[derive(Clone, Copy, Debug, PartialEq, Eq, Hash)]
+pub struct SlotSettings {
+    /// The tap mask: it has the top weight 2^24 and nothing above.
     pub mask: u32,
     /// Where the register starts: not 0, and nothing above the top weight.
     pub start: u32,
@@ -13,20 +14,22 @@ pub struct Settings {
 
 /// A place in a frame: the plan, its settings, the next slot and the register there.
 ///
-/// A call on a slot gives the state moved on and leaves the one it was called on as it is.
-#[derive(Clone, Copy, Debug, PartialEq, Eq)]
+/// A call on a slot gives the state moved on and leaves the one it was called on as it is. Every call on a slot is refused
+/// [`Refusal::Plan`] (slot number 0), [`Refusal::Register`] and [`Refusal::Full`] before anything else is tested.
+#[derive(Clone, Copy, Debug, PartialEq, Eq, Hash)]
 pub struct FrameState {
     plan: Plan,
-    settings: Settings,
+    settings: SlotSettings,
     slot: u32,
     register: u32,
 }
 
 /// What reading a slot gives: the answer, and the state after the call in each case.
 #[derive(Clone, Copy, Debug, PartialEq, Eq)]
+#[non_exhaustive]
 #[must_use]
 pub struct SlotRead {
-    /// Whether header and data were read, or why not.
+    /// Whether the slot was read, or why not.
     pub answer: Result<(), Refusal>,
     /// Moved on by one slot where the slot was read or refused [`Refusal::Parity`], [`Refusal::Bch`] or
     /// [`Refusal::Stuff`]; as it was before any other refusal.
@@ -37,14 +40,14 @@ impl FrameState {
     /// Opens a frame: slot 1, and the register at its start.
     ///
     /// Refused: [`Refusal::Register`].
-    pub fn open(plan: Plan, settings: Settings) -> Result<FrameState, Refusal> {
+    pub fn open(plan: Plan, settings: SlotSettings) -> Result<FrameState, Refusal> {
         let mut next = [0; 2];
         answer(calls::open(plan.octets(), settings.mask, settings.start, &mut next))?;
         Ok(FrameState::at(plan, settings, next[0], next[1]))
     }
 
     /// A state that was kept as numbers. Each call tests it anew, so that any numbers may be given here.
-    pub fn at(plan: Plan, settings: Settings, slot: u32, register: u32) -> FrameState {
+    pub fn at(plan: Plan, settings: SlotSettings, slot: u32, register: u32) -> FrameState {
         FrameState { plan, settings, slot, register }
     }
 
@@ -54,7 +57,7 @@ impl FrameState {
     }
 
     /// The frame's settings.
-    pub fn settings(&self) -> Settings {
+    pub fn settings(&self) -> SlotSettings {
         self.settings
     }
 
@@ -68,48 +71,71 @@ impl FrameState {
         self.register
     }
 
-    fn moved(self, next: [u32; 2]) -> FrameState {
-        FrameState::at(self.plan, self.settings, next[0], next[1])
+    /// The number of a call on the next slot, and the state that it leaves. The call itself leaves `next` as found where the
+    /// state stays.
+    fn called(self, call: impl FnOnce(At, &mut [u32]) -> u32) -> SlotRead {
+        let FrameState { ref plan, settings: SlotSettings { mask, start }, slot, register } = self;
+        let mut next = [slot, register];
+        let number = call(At { plan: plan.octets(), mask, start, slot, register }, &mut next);
+        SlotRead { answer: answer(number), state: FrameState { slot: next[0], register: next[1], ..self } }
+    }
+
+    /// The state moved on, or the refusal, of a call that stays wherever it is refused.
+    fn moved(self, call: impl FnOnce(At, &mut [u32]) -> u32) -> Result<FrameState, Refusal> {
+        let SlotRead { answer, state } = self.called(call);
+        answer.map(|()| state)
     }
 
     /// Passes a dummy.
     ///
-    /// Refused: [`Refusal::Plan`] (slot number 0), [`Refusal::Register`], [`Refusal::Full`], [`Refusal::Dummy`] (at a data
-    /// slot).
+    /// Refused: [`Refusal::Dummy`] (at a data slot).
     pub fn pass(self) -> Result<FrameState, Refusal> {
-        let FrameState { plan, settings, slot, register } = self;
-        let mut next = [slot, register];
-        answer(calls::pass(plan.octets(), settings.mask, settings.start, slot, register, &mut next))?;
-        Ok(self.moved(next))
+        self.moved(calls::pass)
     }
 
-    /// Codes the next slot: header and data, [`source_octets`](crate::source_octets) of the rate at its place, into
+    /// Codes the next slot: header and data, [`Rate::source_octets`] of the rate at its place, into
     /// [`SLOT_OCTETS`](crate::SLOT_OCTETS), by a parity table of that rate.
     ///
-    /// Refused: [`Refusal::Plan`] (slot number 0), [`Refusal::Register`], [`Refusal::Full`], [`Refusal::Dummy`],
-    /// [`Refusal::Length`], [`Refusal::Table`]; `coded` is then as it was.
+    /// Refused: [`Refusal::Dummy`], [`Refusal::Length`], [`Refusal::Table`]; `coded` is then as it was.
     pub fn code_slot(self, table: &[u16], source: &[u8], coded: &mut [u8]) -> Result<FrameState, Refusal> {
-        let FrameState { plan, settings: Settings { mask, start }, slot, register } = self;
-        let mut next = [slot, register];
-        answer(calls::code_slot(plan.octets(), mask, start, slot, register, table, source, coded, &mut next))?;
-        Ok(self.moved(next))
+        self.moved(|at, next| calls::code_slot(at, table, source, coded, next))
     }
 
     /// Reads the next slot; the lengths are those of [`code_slot`](FrameState::code_slot).
     ///
     /// Refused: as coding is, then [`Refusal::Parity`], [`Refusal::Bch`], [`Refusal::Stuff`]; `source` is then as it was.
     pub fn read_slot(self, table: &[u16], coded: &[u8], source: &mut [u8]) -> SlotRead {
-        let FrameState { plan, settings: Settings { mask, start }, slot, register } = self;
-        // The call itself leaves `next` where the state stays.
-        let mut next = [slot, register];
-        let number = calls::read_slot(plan.octets(), mask, start, slot, register, table, coded, source, &mut next);
-        SlotRead { answer: answer(number), state: self.moved(next) }
+        self.called(|at, next| calls::read_slot(at, table, coded, source, next))
+    }
+
+    /// Codes the next slot from [`HEADER_OCTETS`](crate::HEADER_OCTETS) and its packets, [`Rate::packet_octets`] of the rate
+    /// at its place, into [`SLOT_OCTETS`](crate::SLOT_OCTETS), by a parity table of that rate.
+    ///
+    /// Refused: [`Refusal::Dummy`], [`Refusal::Length`] of the packets, [`Refusal::Sync`], [`Refusal::Length`] of the other
+    /// areas, [`Refusal::Table`]; `coded` is then as it was.
+    pub fn code_packets(
+        self,
+        table: &[u16],
+        header: &[u8],
+        packets: &[u8],
+        coded: &mut [u8],
+    ) -> Result<FrameState, Refusal> {
+        self.moved(|at, next| calls::code_packets(at, table, header, packets, coded, next))
+    }
+
+    /// Reads the next slot into its header and its packets; the lengths are those of
+    /// [`code_packets`](FrameState::code_packets).
+    ///
+    /// Refused: [`Refusal::Dummy`], [`Refusal::Length`], [`Refusal::Table`], [`Refusal::Parity`], [`Refusal::Bch`],
+    /// [`Refusal::Stuff`]; `header` and `packets` are then as they were.
+    pub fn read_packets(self, table: &[u16], coded: &[u8], header: &mut [u8], packets: &mut [u8]) -> SlotRead {
+        self.called(|at, next| calls::read_packets(at, table, coded, header, packets, next))
     }
 }
 
 /// Checks the parity of a slot of a rate, [`SLOT_OCTETS`](crate::SLOT_OCTETS), whatever its dispersal.
 ///
-/// Refused: [`Refusal::Plan`], [`Refusal::Length`], [`Refusal::Table`], [`Refusal::Parity`].
-pub fn check_parity(rate: u32, table: &[u16], coded: &[u8]) -> Result<(), Refusal> {
-    answer(calls::check_parity(rate, table, coded))
+/// Refused: [`Refusal::Length`], [`Refusal::Table`], [`Refusal::Parity`].
+pub fn check_parity(rate: Rate, table: &[u16], coded: &[u8]) -> Result<(), Refusal> {
+    answer(calls::check_parity(rate.number(), table, coded))
 }

@@ -1,12 +1,21 @@
 //! TMCC blocks.
 use crate::refusal::answer;
-use crate::{calls, Refusal, Settings};
+use crate::{calls, Refusal};
 
-/// Codes the 9,422 TMCC bits of [`TMCC_SOURCE_OCTETS`](crate::TMCC_SOURCE_OCTETS), whose last two bits are 0, into a block of
-/// [`TMCC_OCTETS`](crate::TMCC_OCTETS), by a parity table of rate 3. The register has 15 bits.
+/// The settings of the 15-bit dispersal register of TMCC blocks.
+#[derive(Clone, Copy, Debug, PartialEq, Eq, Hash)]
+pub struct TmccSettings {
+    /// The tap mask: it has the top weight 2^14 and nothing above.
+    pub mask: u32,
+    /// Where the register starts: not 0, and nothing above the top weight.
+    pub start: u32,
+}
+
+/// Codes the 9,422 TMCC bits of [`TMCC_OCTETS`](crate::TMCC_OCTETS), whose last two bits are 0, into a block of
+/// [`BLOCK_OCTETS`](crate::BLOCK_OCTETS), by a parity table of rate 1/2.
 ///
 /// Refused: [`Refusal::Register`], [`Refusal::Length`], [`Refusal::Table`], [`Refusal::Tail`]; `block` is then as it was.
-pub fn code_tmcc(settings: Settings, table: &[u16], source: &[u8], block: &mut [u8]) -> Result<(), Refusal> {
+pub fn code_tmcc(settings: TmccSettings, table: &[u16], source: &[u8], block: &mut [u8]) -> Result<(), Refusal> {
     answer(calls::code_tmcc(settings.mask, settings.start, table, source, block))
 }
 
@@ -14,6 +23,6 @@ pub fn code_tmcc(settings: Settings, table: &[u16], source: &[u8], block: &mut [
 ///
 /// Refused: [`Refusal::Register`], [`Refusal::Length`], [`Refusal::Table`], [`Refusal::Parity`], [`Refusal::Bch`]; `source` is
 /// then as it was.
-pub fn read_tmcc(settings: Settings, table: &[u16], block: &[u8], source: &mut [u8]) -> Result<(), Refusal> {
+pub fn read_tmcc(settings: TmccSettings, table: &[u16], block: &[u8], source: &mut [u8]) -> Result<(), Refusal> {
     answer(calls::read_tmcc(settings.mask, settings.start, table, block, source))
 }
