@@ -21,6 +21,14 @@ impl Failure {
     pub fn refused(about: impl Display, refusal: Refusal, why: impl Display) -> Failure {
         Failure::new(about, format!("refused {} {}: {why}", refusal.number(), refusal.word()))
     }
+
+    /// A stream without a single packet or frame, of so many octets.
+    pub fn without(name: &str, unit: &str, octets: usize) -> Failure {
+        match octets {
+            0 => Failure::new(name, format!("has no {unit}s")),
+            _ => Failure::new(name, format!("has no whole {unit}: it ends after {octets} octets")),
+        }
+    }
 }
 
 impl Display for Failure {
