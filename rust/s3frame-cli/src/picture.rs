@@ -25,7 +25,8 @@ const LINE: u32 = 34;
 /// The side of a coloured square in a legend.
 const KEY: i32 = 14;
 
-/// How many labels an axis of frames has at most.
+/// How many labels an axis has at most: those of slots are tens.
+const SLOT_LABELS: usize = 13;
 const FRAME_LABELS: usize = 10;
 
 /// What each answer is called, and its colour.
@@ -91,7 +92,8 @@ fn chart_frames(area: &Area, rows: &Rows) -> Drawn {
     let place = |frame: u64, side: f64| -(frame as f64 + side);
     let mut chart = ChartBuilder::on(area)
         .x_label_area_size(SLOT_AXIS)
-        .y_label_area_size(FRAME_AXIS)
+        .y_label_area_size(FRAME_AXIS - EDGE)
+        .margin_left(EDGE)
         .margin_right(EDGE)
         .margin_bottom(EDGE)
         .build_cartesian_2d(0.5..SLOTS as f64 + 0.5, place(rows.frames(), 0.5)..place(1, -0.5))?;
@@ -101,7 +103,7 @@ fn chart_frames(area: &Area, rows: &Rows) -> Drawn {
         .x_desc("slot")
         .y_desc("frame")
         .label_style(FONT)
-        .x_labels(13)
+        .x_labels(SLOT_LABELS)
         .y_labels(FRAME_LABELS.min(rows.frames() as usize))
         .x_label_formatter(&|slot| whole(*slot))
         .y_label_formatter(&|frame| whole(-frame))
@@ -157,7 +159,9 @@ fn chart_plan(area: &Area, runs: &[Run]) -> Drawn {
         .margin_left(FRAME_AXIS)
         .margin_right(EDGE)
         .build_cartesian_2d(0.5..SLOTS as f64 + 0.5, 0.0..1.0)?;
-    chart.configure_mesh().disable_mesh().x_desc("slot").label_style(FONT).x_labels(13).draw()?;
+    let mut mesh = chart.configure_mesh();
+    mesh.disable_mesh().x_desc("slot").label_style(FONT).x_labels(SLOT_LABELS);
+    mesh.x_label_formatter(&|slot| whole(*slot)).draw()?;
     for run in runs {
         chart.draw_series((run.first..=run.last).map(|slot| {
             let (left, right) = sides(slot, slot);
@@ -186,10 +190,11 @@ fn style(run: &Run) -> ShapeStyle {
 fn meaning(run: &Run) -> String {
     let Run { first, last, place } = run;
     let group = place.group + 1;
+    let slots = if first == last { format!("slot {first}") } else { format!("slots {first} to {last}") };
     if place.data {
         let (modulation, rate, packets) = (place.modulation, place.rate, place.rate.packets());
-        format!("{group}: {modulation} {rate}, data slots {first} to {last}, {packets} packets each")
+        format!("{group}: {modulation} {rate}, data {slots}, {packets} packets each")
     } else {
-        format!("{group}: dummy slots {first} to {last}")
+        format!("{group}: dummy {slots}")
     }
 }
