@@ -14,7 +14,7 @@ macro_rules! numbered {
             /// All of them, by their numbers.
             pub const ALL: [$kind; [$($number),*].len()] = [$($kind::$case),*];
 
-            /// The one that has this number; none where document 01 gives it to no other.
+            /// The one of this number, if there is one.
             pub fn from_number(number: u32) -> Option<$kind> {
                 $kind::ALL.into_iter().find(|one| one.number() == number)
             }

@@ -2,19 +2,21 @@
 mod common;
 use common::{code, groups, number, trials, Random};
 use reference::frame;
-use s3frame::{code_frame, read_frame, Plan, Settings, FRAME_OCTETS, FRAME_SLOTS, SLOT_OCTETS};
+use s3frame::{
+    code_frame, read_frame, Plan, Rate, Refusal, SlotAnswer, SlotSettings, FRAME_OCTETS, SLOTS, SLOT_OCTETS,
+};
 
 /// A frame's plan, settings and tables.
 struct Frame {
     plan: Plan,
-    settings: Settings,
+    settings: SlotSettings,
     tables: Vec<Vec<u16>>,
 }
 
 impl Frame {
     fn new(random: &mut Random, plan: Plan) -> Frame {
-        let tables = plan.groups().map(|group| random.table(group.rate.into())).collect();
-        Frame { plan, settings: random.settings(25), tables }
+        let (tables, settings) = (random.tables(&plan), random.slot_settings());
+        Frame { plan, settings, tables }
     }
 
     /// Codes a source both ways and compares; gives the frame.
@@ -31,22 +33,21 @@ impl Frame {
 
     /// Reads a frame both ways and compares; gives the source and the answers.
     fn read(&self, random: &mut Random, coded: &[u8]) -> (Vec<u8>, Vec<u8>) {
-        let found = (random.octets(self.plan.source_octets()), random.octets(FRAME_SLOTS));
+        let found = random.octets(self.plan.source_octets());
         let [mut ours, mut theirs] = [found.clone(), found];
-        let (tables, Settings { mask, start }) = (self.tables.concat(), self.settings);
-        let groups = groups(&self.plan);
-        let expected = frame::read(&groups, mask, start, &tables, coded, &mut theirs.0, &mut theirs.1);
-        let answer = read_frame(&self.plan, self.settings, &tables, coded, &mut ours.0, &mut ours.1);
-        assert_eq!(number(answer), expected.into());
-        assert_eq!(expected, 0);
+        let (tables, SlotSettings { mask, start }) = (self.tables.concat(), self.settings);
+        let (groups, mut answers) = (groups(&self.plan), random.octets(SLOTS));
+        assert_eq!(frame::read(&groups, mask, start, &tables, coded, &mut theirs, &mut answers), 0);
+        let read = read_frame(&self.plan, self.settings, &tables, coded, &mut ours).expect("a frame that is read");
+        assert_eq!(read.answers.map(octet).to_vec(), answers);
         assert!(ours == theirs, "what was read differs");
-        ours
+        (ours, answers)
     }
 
     /// Damages about one slot in eight, dummies too, and gives the answers to expect.
     fn damage(&self, random: &mut Random, coded: &mut [u8]) -> Vec<u8> {
-        let rates: Vec<usize> = self.plan.groups().map(|group| group.rate.into()).collect();
-        let codes: Vec<_> = rates.iter().zip(&self.tables).map(|(&rate, table)| code(rate, table)).collect();
+        let groups_and_tables = self.plan.groups().zip(&self.tables);
+        let codes: Vec<_> = groups_and_tables.map(|(group, table)| code(group.rate, table)).collect();
         let places = reference::plan::places(&groups(&self.plan));
         let slot = |(place, part): (&reference::plan::Place, &mut [u8])| {
             let damage = if random.chance(8) { random.pick(&[8, 9, 10]) } else { 0 };
@@ -60,6 +61,15 @@ impl Frame {
             }
         };
         places.iter().zip(coded.chunks_mut(SLOT_OCTETS)).map(slot).collect()
+    }
+}
+
+/// The answer octet that the second implementation has for an answer.
+fn octet(answer: SlotAnswer) -> u8 {
+    match answer {
+        SlotAnswer::Read => 0,
+        SlotAnswer::Dummy => Refusal::Dummy as u8,
+        SlotAnswer::Refused(refusal) => refusal as u8,
     }
 }
 
@@ -81,8 +91,8 @@ fn frame_of(random: &mut Random, plan: Plan) {
 fn every_rate() {
     let mut random = Random::new(11);
     for _ in 0..trials(1) {
-        for rate in 1..=11 {
-            let modulation = 1 + random.below(5) as u8;
+        for rate in Rate::ALL {
+            let modulation = random.modulation();
             let plan = random.plan_with(modulation, rate);
             frame_of(&mut random, plan);
         }

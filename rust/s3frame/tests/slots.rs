@@ -1,19 +1,9 @@
 //! Slots, one call at a time, beside the second implementation.
 mod common;
-use common::{code, groups, number, trials, Random};
-use reference::calls::{self, State};
+use common::{code, groups, number, place, trials, twin, Random};
+use reference::calls;
 use reference::vectors;
-use s3frame::{published_table, FrameState, Group, Plan, Refusal, Settings, SLOT_OCTETS};
-
-/// The same state for the second implementation.
-fn twin<'a>(groups: &'a [reference::plan::Group], state: &FrameState) -> State<'a> {
-    let settings = state.settings();
-    State { plan: groups, mask: settings.mask, start: settings.start, slot: state.slot(), register: state.register() }
-}
-
-fn place(state: &FrameState) -> [u32; 2] {
-    [state.slot(), state.register()]
-}
+use s3frame::{FrameState, Group, Modulation, Plan, Rate, Refusal, SlotSettings, SLOT_OCTETS};
 
 /// Codes a slot both ways and compares; gives the slot and the state after it.
 fn coded(random: &mut Random, state: FrameState, table: &[u16], source: &[u8]) -> (Vec<u8>, FrameState) {
@@ -50,30 +40,16 @@ fn read(
 }
 
 /// Checks a slot's parity both ways and compares.
-fn checked(rate: usize, table: &[u16], slot: &[u8]) -> u32 {
-    let ours = number(s3frame::check_parity(rate as u32, table, slot));
-    assert_eq!(ours, u32::from(calls::check_parity(rate, table, slot)));
+fn checked(rate: Rate, table: &[u16], slot: &[u8]) -> u32 {
+    let ours = number(s3frame::check_parity(rate, table, slot));
+    assert_eq!(ours, u32::from(calls::check_parity(rate as usize, table, slot)));
     ours
 }
 
-/// The numbers of the data slots of this modulation and rate.
-fn data_slots(plan: &Plan, modulation: u8, rate: u8) -> Vec<u32> {
-    let of_kind = |slot: &u32| {
-        let (group, data) = plan.place(*slot).expect("a slot of the frame");
-        data && (group.modulation, group.rate) == (modulation, rate)
-    };
-    (1..=120).filter(of_kind).collect()
-}
-
 /// Codes one slot, reads it whole and damaged in each way, and gives how many slot calls that made.
-fn slot_of(random: &mut Random, modulation: u8, rate: u8) -> usize {
-    let plan = random.plan_with(modulation, rate);
-    let slots = data_slots(&plan, modulation, rate);
-    let (settings, register) = (random.settings(25), random.register(25));
-    let state = FrameState::at(plan, settings, random.pick(&slots), register);
-    let rate = usize::from(rate);
-    let table = random.table(rate);
-    let source = random.source(s3frame::source_octets(rate as u32).expect("a known rate"));
+fn slot_of(random: &mut Random, modulation: Modulation, rate: Rate) -> usize {
+    let state = random.state(modulation, rate);
+    let (table, source) = (random.table(rate), random.source(rate.source_octets()));
 
     let (slot, after) = coded(random, state, &table, &source);
     assert_eq!(checked(rate, &table, &slot), 0);
@@ -92,8 +68,8 @@ fn every_rate_and_modulation() {
     let mut random = Random::new(1);
     let mut calls = 0;
     for _ in 0..trials(8) {
-        for modulation in 1..=5 {
-            for rate in 1..=11 {
+        for modulation in Modulation::ALL {
+            for rate in Rate::ALL {
                 calls += slot_of(&mut random, modulation, rate);
             }
         }
@@ -104,13 +80,14 @@ fn every_rate_and_modulation() {
 
 /// The first bit of the header, of the BCH bits, of the stuff bits or of the last octet is damaged, and the parity is as sent
 /// or made anew: in the first two slots of a frame of a rate, with the published table.
-fn damaged_parts_of(random: &mut Random, rate: u8) {
-    let plan = Plan::new(&[Group::new(5, rate, 120)]).expect("a plan that keeps the rules");
-    let table = published_table(rate.into()).expect("a known rate");
-    let code = code(rate.into(), &table);
-    let mut state = FrameState::open(plan, random.settings(25)).expect("settings that are allowed");
+fn damaged_parts_of(random: &mut Random, rate: Rate) {
+    let group = Group { modulation: Modulation::Apsk32, rate, slots: 120 };
+    let plan = Plan::new(&[group]).expect("a plan that keeps the rules");
+    let table = rate.published_table();
+    let code = code(rate, &table);
+    let mut state = FrameState::open(plan, random.slot_settings()).expect("settings that are allowed");
     for _ in 1..=2 {
-        let source = random.source(s3frame::source_octets(rate.into()).expect("a known rate"));
+        let source = random.source(rate.source_octets());
         let (slot, after) = coded(random, state, &table, &source);
         let bch = source.len();
         for (octet, number_anew) in [(0, 9), (bch, 9), (bch + 24, 10), (SLOT_OCTETS - 1, 0)] {
@@ -119,7 +96,7 @@ fn damaged_parts_of(random: &mut Random, rate: u8) {
             for (slot, expected, check) in [(as_sent, 8, 8), (anew, number_anew, 0)] {
                 let (number, _, moved) = read(random, state, &table, &slot, bch);
                 assert_eq!((number, moved), (expected, after));
-                assert_eq!(checked(rate.into(), &table, &slot), check);
+                assert_eq!(checked(rate, &table, &slot), check);
             }
         }
         state = after;
@@ -129,7 +106,7 @@ fn damaged_parts_of(random: &mut Random, rate: u8) {
 #[test]
 fn each_part_damaged() {
     let mut random = Random::new(4);
-    for rate in 1..=11 {
+    for rate in Rate::ALL {
         damaged_parts_of(&mut random, rate);
     }
 }
@@ -137,33 +114,32 @@ fn each_part_damaged() {
 /// The second implementation's frame, and the one made slot by slot, dummies passed; then both are read slot by slot, some
 /// slots damaged. Gives how many slot calls that made.
 fn frame_of(random: &mut Random) -> usize {
-    let (plan, settings) = (random.plan(), random.settings(25));
-    let tables: Vec<Vec<u16>> = plan.groups().map(|group| random.table(group.rate.into())).collect();
+    let (plan, settings) = (random.plan(), random.slot_settings());
+    let tables = random.tables(&plan);
     let source = random.source(plan.source_octets());
     let mut frame = random.octets(s3frame::FRAME_OCTETS);
     let lent = tables.concat();
     let untouched = frame.clone();
     assert_eq!(reference::frame::code(&groups(&plan), settings.mask, settings.start, &lent, &source, &mut frame), 0);
 
-    let groups: Vec<s3frame::Group> = plan.groups().collect();
     let opened = FrameState::open(plan, settings).expect("settings that are allowed");
     let (mut coder, mut reader, mut from, mut calls) = (opened, opened, 0, 0);
     for (part, untouched) in frame.chunks(SLOT_OCTETS).zip(untouched.chunks(SLOT_OCTETS)) {
-        let (group, data) = plan.place(coder.slot()).expect("a slot of the frame");
-        if !data {
+        let place = plan.place(coder.slot()).expect("a slot of the frame");
+        if !place.data {
             assert_eq!(coder.code_slot(&[], &[], &mut []), Err(Refusal::Dummy));
             (coder, reader) = (coder.pass().expect("a dummy"), reader.pass().expect("a dummy"));
             assert!(part == untouched);
             continue;
         }
-        let table = &tables[groups.iter().position(|other| *other == group).expect("one of the groups")];
-        let to = from + s3frame::source_octets(group.rate.into()).expect("a known rate");
+        let table = &tables[place.group];
+        let to = from + place.rate.source_octets();
         let mut slot = vec![0; SLOT_OCTETS];
         coder = coder.code_slot(table, &source[from..to], &mut slot).expect("a slot that is coded");
         assert!(slot == part, "slot {} differs from the whole frame's", coder.slot() - 1);
         let damage = random.pick(&[0, 0, 0, 0, 8, 9, 10]);
         if damage != 0 {
-            slot = random.damaged(&code(group.rate.into(), table), &slot, damage);
+            slot = random.damaged(&code(place.rate, table), &slot, damage);
         }
         let mut back = vec![0; to - from];
         let read = reader.read_slot(table, &slot, &mut back);
@@ -187,9 +163,9 @@ fn frames_slot_by_slot() {
 #[test]
 fn a_refused_state_stays() {
     let mut random = Random::new(3);
-    let (plan, settings, register) = (random.plan_with(4, 7), random.settings(25), random.register(25));
-    let slot = random.pick(&data_slots(&plan, 4, 7));
-    let (table, source) = (random.table(7), random.octets(22 + 23 * 187));
+    let (rate, sound) = (Rate::R7_9, random.state(Modulation::Apsk16, Rate::R7_9));
+    let (plan, settings, slot, register) = (*sound.plan(), sound.settings(), sound.slot(), sound.register());
+    let (table, source) = (random.table(rate), random.octets(rate.source_octets()));
     let state = |slot, register| FrameState::at(plan, settings, slot, register);
     let cases = [
         (state(0, 0), &table[..], &source[..], Refusal::Plan),
@@ -207,6 +183,6 @@ fn a_refused_state_stays() {
         assert!(coded == found && back == source);
     }
     assert_eq!(state(slot, register).pass(), Err(Refusal::Dummy));
-    let wide = Settings { mask: settings.mask, start: 1 << 25 };
+    let wide = SlotSettings { mask: settings.mask, start: 1 << 25 };
     assert_eq!(FrameState::open(plan, wide), Err(Refusal::Register));
 }

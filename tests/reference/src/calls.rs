@@ -1,9 +1,12 @@
-//! Calls at a place of a frame, with document 01's refusals in their order: a state handed in is tested anew, and the next
-//! slot and register go into a lent area of two numbers.
+//! Calls on a plan and at a place of a frame, with document 01's refusals in their order: a state handed in is tested anew,
+//! and the next slot and register go into a lent area of two numbers.
 use crate::dispersal::allowed;
 use crate::plan::{self, Group, Place, SLOTS};
 use crate::slot::{self, Code, DUMMY, FULL, LENGTH_WRONG, PARITY_WRONG, PLAN_WRONG, REGISTER_WRONG, TABLE_WRONG};
-use crate::{ldpc, tables, vectors};
+use crate::{ldpc, packets, tables, vectors};
+
+/// The header octets of a slot.
+const HEADER: usize = 22;
 
 /// A frame state: plan, settings, the next slot's number from 1, and the register.
 #[derive(Clone, Copy)]
@@ -30,18 +33,20 @@ impl State<'_> {
         }
     }
 
+    /// The group of the next slot, which carries data, or the first refusal that holds of the state for a data call.
+    fn group(&self) -> Result<&Group, u8> {
+        let place = self.place()?;
+        if place.data { Ok(&self.plan[place.group]) } else { Err(DUMMY) }
+    }
+
     /// The code of the group at a data slot, or the first refusal that coding and reading share.
     fn accept(&self, table: &[u16], source: &[u8], coded: &[u8], next: &[u32]) -> Result<Code, u8> {
-        let place = self.place()?;
-        if !place.data {
-            return Err(DUMMY);
-        }
-        let rows = self.plan[place.group].rows();
+        let group = self.group()?;
         let lengths = (source.len(), coded.len(), next.len());
-        if lengths != (slot::message_bits(rows) / 8, slot::OCTETS, 2) {
+        if lengths != (group.source_octets(), slot::OCTETS, 2) {
             return Err(LENGTH_WRONG);
         }
-        code_of(rows, table)
+        code_of(group.rows(), table)
     }
 }
 
@@ -52,6 +57,41 @@ fn code_of(rows: usize, table: &[u16]) -> Result<Code, u8> {
 
 fn number(answer: Result<(), u8>) -> u8 {
     answer.err().unwrap_or(0)
+}
+
+fn accepted(number: u8) -> Result<(), u8> {
+    if number == 0 { Ok(()) } else { Err(number) }
+}
+
+/// Copies the printed table of a rate.
+pub fn published_table(rate: usize, table: &mut [u16]) -> u8 {
+    match packets::packets_of(rate) {
+        None => PLAN_WRONG,
+        Some(_) => tables::copy([rate], table),
+    }
+}
+
+/// Copies the printed tables of a plan's groups, in group order.
+pub fn published_tables(plan: &[Group], tables: &mut [u16]) -> u8 {
+    number(accepted(plan::refusal(plan)).and_then(|()| {
+        let rates = plan.iter().map(|group| group.rate);
+        accepted(tables::copy(rates, tables))
+    }))
+}
+
+/// What a slot is: its group from 0, the group's modulation and rate, and 1 where it carries data. A refusal writes zeros.
+pub fn place(plan: &[Group], slot: u32, place: &mut [u32]) -> u8 {
+    let found = if slot == 0 || plan::refusal(plan) != 0 {
+        Err(PLAN_WRONG)
+    } else {
+        plan::places(plan).get(slot as usize - 1).copied().ok_or(FULL)
+    };
+    if place.len() != 4 {
+        return found.err().unwrap_or(LENGTH_WRONG);
+    }
+    let numbers = |of: Place| [of.group, plan[of.group].modulation, plan[of.group].rate, of.data.into()];
+    place.copy_from_slice(&found.map_or([0; 4], numbers).map(|number| number as u32));
+    found.err().unwrap_or(0)
 }
 
 /// Opens a frame at slot 1 with the register at its start. The state of a refused opening is all zeros.
@@ -104,6 +144,43 @@ pub fn read_slot(state: &State, table: &[u16], coded: &[u8], source: &mut [u8], 
     }))
 }
 
+/// Codes the next slot from its header and packets. What is wrong with the packets comes before what is wrong with the slot.
+pub fn code_packets(
+    state: &State,
+    table: &[u16],
+    header: &[u8],
+    packets: &[u8],
+    coded: &mut [u8],
+    next: &mut [u32],
+) -> u8 {
+    number(state.group().and_then(|group| {
+        let mut data = vec![0; group.source_octets() - HEADER];
+        accepted(packets::pack(group.rate, packets, &mut data))?;
+        accepted(code_slot(state, table, &[header, &data].concat(), coded, next))
+    }))
+}
+
+/// Reads the next slot into its header and packets; a slot that fails a check moves the state on all the same.
+pub fn read_packets(
+    state: &State,
+    table: &[u16],
+    coded: &[u8],
+    header: &mut [u8],
+    packets: &mut [u8],
+    next: &mut [u32],
+) -> u8 {
+    number(state.group().and_then(|group| {
+        let count = packets::packets_of(group.rate).expect("an accepted plan has known rates");
+        if (header.len(), packets.len()) != (HEADER, 188 * count) {
+            return Err(LENGTH_WRONG);
+        }
+        let mut source = vec![0; group.source_octets()];
+        accepted(read_slot(state, table, coded, &mut source, next))?;
+        header.copy_from_slice(&source[..HEADER]);
+        accepted(packets::unpack(group.rate, &source[HEADER..], packets))
+    }))
+}
+
 /// The lone parity check.
 pub fn check_parity(rate: usize, table: &[u16], coded: &[u8]) -> u8 {
     number((|| {
@@ -149,6 +226,33 @@ mod tests {
     }
 
     #[test]
+    fn the_places_of_document_01() {
+        let groups = plan::plan(&[(4, 7, 115), (2, 3, 5)]);
+        let placed = |groups, slot| {
+            let mut numbers = [7; 4];
+            (place(groups, slot, &mut numbers), numbers)
+        };
+        assert_eq!([placed(&groups, 92), placed(&groups, 93)], [(0, [0, 4, 7, 1]), (0, [0, 4, 7, 0])]);
+        assert_eq!([placed(&groups, 117), placed(&groups, 120)], [(0, [1, 2, 3, 1]), (0, [1, 2, 3, 0])]);
+        assert_eq!([placed(&groups, 0), placed(&groups, 121)], [(1, [0; 4]), (3, [0; 4])]);
+        assert_eq!([placed(&groups[..1], 1), placed(&groups[..1], 121)], [(1, [0; 4]); 2]);
+        let mut five = [7; 5];
+        assert_eq!([0, 1, 121].map(|slot| place(&groups, slot, &mut five)), [1, 4, 3]);
+        assert_eq!(five, [7; 5]);
+    }
+
+    #[test]
+    fn printed_tables_are_copied_into_areas_of_their_length() {
+        let groups = plan::plan(&[(4, 7, 115), (2, 3, 5)]);
+        let mut tables = vec![0; 471 + 356];
+        assert_eq!(published_tables(&groups, &mut tables), 0);
+        assert_eq!(tables, printed([7, 3]));
+        assert_eq!([published_tables(&groups, &mut tables[1..]), published_tables(&groups[..1], &mut [])], [4, 1]);
+        assert_eq!((published_table(3, &mut tables[..356]), &tables[..356]), (0, &printed([3])[..]));
+        assert_eq!([published_table(3, &mut []), published_table(0, &mut []), published_table(12, &mut [])], [4, 1, 1]);
+    }
+
+    #[test]
     fn a_damaged_slot_moves_the_reader_on() {
         let plan = plan::plan(&[(5, 11, 120)]);
         let (table, source) = (printed([11]), octets(1, 22 + 27 * 187));
@@ -163,5 +267,33 @@ mod tests {
         assert_eq!(found, octets(2, source.len()));
         assert_eq!(check_parity(11, &table, &coded), PARITY_WRONG);
         assert_eq!([check_parity(0, &table, &coded), check_parity(12, &table, &coded)], [1, 1]);
+    }
+
+    #[test]
+    fn packets_come_back_from_their_slot() {
+        let plan = plan::plan(&[(5, 1, 120)]);
+        let (table, header, data) = (printed([1]), octets(1, HEADER), octets(2, 1870));
+        let (mut packets, mut slot, mut next) = (vec![0; 1880], vec![0; slot::OCTETS], [0, 0]);
+        assert_eq!(packets::unpack(1, &data, &mut packets), 0);
+        assert_eq!(code_packets(&state(&plan, 1, 5), &table, &header, &packets, &mut slot, &mut next), 0);
+        let code = code_of(41, &table).ok().expect("a printed table");
+        let source = [&header[..], &data].concat();
+        assert_eq!((slot.clone(), next[1]), slot::code_slot(&code, MASK, 5, &source));
+
+        let (mut head, mut back, mut moved) = (vec![0; HEADER], vec![0; 1880], [0, 0]);
+        assert_eq!(read_packets(&state(&plan, 1, 5), &table, &slot, &mut head, &mut back, &mut moved), 0);
+        assert_eq!((head, back, moved), (header, packets, next));
+    }
+
+    #[test]
+    fn wrong_packets_come_before_a_wrong_slot() {
+        let plan = plan::plan(&[(5, 1, 120)]);
+        let coded = |packets: &[u8], header: usize, table: &[u16]| {
+            let (mut slot, mut next) = (vec![0; slot::OCTETS], [0, 0]);
+            code_packets(&state(&plan, 1, 5), table, &vec![0; header], packets, &mut slot, &mut next)
+        };
+        let (good, table) = ([&[0x47][..], &[0; 187]].concat().repeat(10), printed([1]));
+        assert_eq!([coded(&[0; 1881], 21, &[]), coded(&[0; 1880], 21, &[])], [4, 7]);
+        assert_eq!([coded(&good, 21, &[]), coded(&good, 22, &[]), coded(&good, 22, &table)], [4, 5, 0]);
     }
 }

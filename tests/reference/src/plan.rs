@@ -19,6 +19,11 @@ impl Group {
         ROWS[self.rate - 1]
     }
 
+    /// How many octets header and data of one of its slots have.
+    pub fn source_octets(&self) -> usize {
+        message_bits(self.rows()) / 8
+    }
+
     /// Table 2.2.1-2: of five slots as many carry data as a symbol has bits.
     fn data_slots(&self) -> usize {
         self.slots * self.modulation / 5
@@ -80,7 +85,7 @@ pub fn places(plan: &[Group]) -> Vec<Place> {
 
 /// How many octets the headers and data of an accepted plan's data slots have.
 pub fn source_octets(plan: &[Group]) -> usize {
-    plan.iter().map(|group| group.data_slots() * message_bits(group.rows()) / 8).sum()
+    plan.iter().map(|group| group.data_slots() * group.source_octets()).sum()
 }
 
 #[cfg(test)]

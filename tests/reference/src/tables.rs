@@ -1,6 +1,7 @@
 //! The eleven parity tables as printed in document 002: tables.txt has a title and a line for each row. And tables as
 //! document 01 lends them: one list of numbers, for each row its count and then its addresses.
 use crate::ldpc::GROUP;
+use crate::slot::LENGTH_WRONG;
 
 pub type Table = Vec<Vec<usize>>;
 
@@ -28,6 +29,16 @@ fn lent(table: &Table) -> Vec<u16> {
 pub fn printed(rates: impl IntoIterator<Item = usize>) -> Vec<u16> {
     let tables = tables();
     rates.into_iter().flat_map(|rate| lent(&tables[rate - 1])).collect()
+}
+
+/// Copies the printed tables of these rates into an area of their length.
+pub fn copy(rates: impl IntoIterator<Item = usize>, area: &mut [u16]) -> u8 {
+    let tables = printed(rates);
+    if area.len() != tables.len() {
+        return LENGTH_WRONG;
+    }
+    area.copy_from_slice(&tables);
+    0
 }
 
 /// The next row of a lent list, if it has document 01's form: 1 to 16 different addresses below the limit.

@@ -1,7 +1,8 @@
 //! Inputs that are wrong in a way that a refusal names.
-use super::{lent, Random};
-use reference::ldpc::{GROUP, ROWS};
+use super::{lent, rows, Random};
+use reference::ldpc::GROUP;
 use reference::tables::taken;
+use s3frame::{Rate, PACKET_OCTETS};
 
 /// What is wrong with the inputs of one call, by the numbers of refusals in the order in which the call tests them.
 pub struct Faults(Vec<u8>);
@@ -46,9 +47,22 @@ pub fn break_plan(random: &mut Random, plan: &mut Vec<u8>) {
     }
 }
 
+/// 1: a plan that breaks a rule, or the slot number 0.
+pub fn break_plan_or_slot(random: &mut Random, plan: &mut Vec<u8>, slot: &mut u32) {
+    match random.below(4) {
+        0 => *slot = 0,
+        _ => break_plan(random, plan),
+    }
+}
+
 /// 1: a modulation or rate that is unknown, also one that is known in its low octet.
 pub fn unknown(random: &mut Random, known: &mut u32, count: u32) {
     *known = random.pick(&[0, count + 1, 255, 256 + *known, 65_536 + *known, 1 << 31 | *known, u32::MAX]);
+}
+
+/// 3: a slot number behind the last, also one that is a slot's in its low octets.
+pub fn past_slot(random: &mut Random, slot: &mut u32) {
+    *slot = random.pick(&[121, 122, 255, 256, 256 + *slot, 65_536 + *slot, u32::MAX]);
 }
 
 /// 6: a start, or a register in a state, that is 0 or too wide.
@@ -80,8 +94,20 @@ pub fn break_length<T: Copy + Default>(random: &mut Random, area: &mut Vec<T>) {
     }
 }
 
+/// 4: one of these areas, so that each is tested alone.
+pub fn break_one_length(random: &mut Random, areas: &mut [&mut Vec<u8>]) {
+    let area = random.below(areas.len());
+    break_length(random, areas[area]);
+}
+
+/// 7: a packet whose sync octet has one wrong bit.
+pub fn break_sync(random: &mut Random, packets: &mut [u8]) {
+    let packet = random.below(packets.len() / PACKET_OCTETS);
+    packets[PACKET_OCTETS * packet] ^= 1 << random.below(8);
+}
+
 /// 5: a list of parity tables that breaks its form in a row, or has a number less or more.
-pub fn break_tables(random: &mut Random, rates: &[usize], tables: &mut Vec<u16>) {
+pub fn break_tables(random: &mut Random, rates: &[Rate], tables: &mut Vec<u16>) {
     match random.below(8) {
         0 => drop(tables.pop()),
         1 => tables.push(random.pick(&[0, 1, 2])),
@@ -91,8 +117,8 @@ pub fn break_tables(random: &mut Random, rates: &[usize], tables: &mut Vec<u16>)
 }
 
 /// A row of no address, of seventeen, or with an address that is too high or stands twice.
-fn break_row(random: &mut Random, rates: &[usize], tables: &mut Vec<u16>) {
-    let rows: Vec<usize> = rates.iter().map(|rate| ROWS[rate - 1]).collect();
+fn break_row(random: &mut Random, rates: &[Rate], tables: &mut Vec<u16>) {
+    let rows: Vec<usize> = rates.iter().map(|&rate| rows(rate)).collect();
     let mut parts = taken(&rows, tables).expect("tables of their form");
     let table = random.below(parts.len());
     let limit = GROUP * (120 - rows[table]);

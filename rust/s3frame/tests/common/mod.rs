@@ -3,10 +3,10 @@
 //! S3_SEED sets the seed, S3_SOAK multiplies the counts.
 #![allow(dead_code)] // each test file uses a part of this
 pub mod faults;
+use reference::calls::State;
 use reference::ldpc::{GROUP, ROWS};
-use reference::plan::{self, Group};
 use reference::slot::{bits_of, octets_of, Code};
-use s3frame::{Plan, Settings};
+use s3frame::{FrameState, Group, Modulation, Plan, Rate, SlotSettings, TmccSettings, PACKET_OCTETS};
 
 fn setting(name: &str, usual: u64) -> u64 {
     match std::env::var(name) {
@@ -56,6 +56,10 @@ impl Random {
         (0..count).map(|_| self.next() as u8).collect()
     }
 
+    pub fn numbers(&mut self, count: usize) -> Vec<u16> {
+        (0..count).map(|_| self.next() as u16).collect()
+    }
+
     /// A source: mostly octets of chance, now and then the same octet throughout.
     pub fn source(&mut self, count: usize) -> Vec<u8> {
         match self.below(8) {
@@ -69,12 +73,36 @@ impl Random {
         1 + self.below((1 << width) - 1) as u32
     }
 
-    /// Settings that a register of so many bits allows.
-    pub fn settings(&mut self, width: u32) -> Settings {
+    /// Mask and start that a register of so many bits allows.
+    fn settings(&mut self, width: u32) -> (u32, u32) {
         let top = 1 << (width - 1);
         let mask = top | self.below(top as usize) as u32;
-        let start = self.register(width);
-        Settings { mask, start }
+        (mask, self.register(width))
+    }
+
+    pub fn slot_settings(&mut self) -> SlotSettings {
+        let (mask, start) = self.settings(25);
+        SlotSettings { mask, start }
+    }
+
+    pub fn tmcc_settings(&mut self) -> TmccSettings {
+        let (mask, start) = self.settings(15);
+        TmccSettings { mask, start }
+    }
+
+    pub fn rate(&mut self) -> Rate {
+        self.pick(&Rate::ALL)
+    }
+
+    pub fn modulation(&mut self) -> Modulation {
+        self.pick(&Modulation::ALL)
+    }
+
+    /// Packets with their sync octets.
+    pub fn packets(&mut self, rate: Rate) -> Vec<u8> {
+        let mut packets = self.octets(rate.packet_octets());
+        packets.chunks_mut(PACKET_OCTETS).for_each(|packet| packet[0] = 0x47);
+        packets
     }
 
     /// A row of a parity table: its addresses differ and lie below the limit.
@@ -95,26 +123,26 @@ impl Random {
     }
 
     /// A parity table for a rate: the printed one, or one of chance.
-    pub fn table(&mut self, rate: usize) -> Vec<u16> {
+    pub fn table(&mut self, rate: Rate) -> Vec<u16> {
         if self.chance(2) {
-            return reference::tables::printed([rate]);
+            return reference::tables::printed([rate as usize]);
         }
-        let rows = ROWS[rate - 1];
+        let rows = rows(rate);
         let limit = GROUP * (120 - rows);
         let rows = (0..rows).map(|_| self.row(limit));
         rows.flat_map(|row| lent(&row)).collect()
     }
 
-    /// The parity tables of a plan, end to end.
-    pub fn tables(&mut self, plan: &Plan) -> Vec<u16> {
-        plan.groups().flat_map(|group| self.table(group.rate.into())).collect()
+    /// A parity table for each group of a plan.
+    pub fn tables(&mut self, plan: &Plan) -> Vec<Vec<u16>> {
+        plan.groups().map(|group| self.table(group.rate)).collect()
     }
 
-    /// Groups of an accepted plan, one of them of this modulation and rate.
-    pub fn groups_with(&mut self, modulation: u8, rate: u8) -> Vec<s3frame::Group> {
+    /// A plan that has a group of this modulation and rate.
+    pub fn plan_with(&mut self, modulation: Modulation, rate: Rate) -> Plan {
         let mut kinds = vec![(modulation, rate)];
         for _ in 0..self.below(8) {
-            let kind = (1 + self.below(5) as u8, 1 + self.below(11) as u8);
+            let kind = (self.modulation(), self.rate());
             if !kinds.contains(&kind) {
                 kinds.push(kind);
             }
@@ -125,17 +153,26 @@ impl Random {
             let group = self.below(kinds.len());
             fives[group] += 1;
         }
-        let group = |(&(modulation, rate), five)| s3frame::Group::new(modulation, rate, 5 * five);
-        kinds.iter().zip(fives).map(group).collect()
-    }
-
-    pub fn plan_with(&mut self, modulation: u8, rate: u8) -> Plan {
-        Plan::new(&self.groups_with(modulation, rate)).expect("a plan that keeps the rules")
+        let group = |((modulation, rate), five)| Group { modulation, rate, slots: 5 * five };
+        let groups: Vec<Group> = kinds.into_iter().zip(fives).map(group).collect();
+        Plan::new(&groups).expect("a plan that keeps the rules")
     }
 
     pub fn plan(&mut self) -> Plan {
-        let (modulation, rate) = (1 + self.below(5) as u8, 1 + self.below(11) as u8);
+        let (modulation, rate) = (self.modulation(), self.rate());
         self.plan_with(modulation, rate)
+    }
+
+    /// A state at a data slot of this modulation and rate.
+    pub fn state(&mut self, modulation: Modulation, rate: Rate) -> FrameState {
+        let plan = self.plan_with(modulation, rate);
+        let of_kind = |slot: &u32| {
+            let place = plan.place(*slot).expect("a slot of the frame");
+            place.data && (place.modulation, place.rate) == (modulation, rate)
+        };
+        let slots: Vec<u32> = (1..=120).filter(of_kind).collect();
+        let (settings, register) = (self.slot_settings(), self.register(25));
+        FrameState::at(plan, settings, self.pick(&slots), register)
     }
 
     /// A slot damaged so that the check of this number fails: 8 by a bit that is the other one, 9 and 10 by such a bit
@@ -165,14 +202,30 @@ pub fn lent(row: &[usize]) -> Vec<u16> {
     count.chain(row.iter().copied()).map(|number| number as u16).collect()
 }
 
-/// The plan as the reference has it.
-pub fn groups(plan: &Plan) -> Vec<Group> {
-    plan::of_octets(plan.octets())
+/// The plan as the second implementation has it.
+pub fn groups(plan: &Plan) -> Vec<reference::plan::Group> {
+    reference::plan::of_octets(plan.octets())
+}
+
+/// The same state for the second implementation.
+pub fn twin<'a>(groups: &'a [reference::plan::Group], state: &FrameState) -> State<'a> {
+    let settings = state.settings();
+    State { plan: groups, mask: settings.mask, start: settings.start, slot: state.slot(), register: state.register() }
+}
+
+/// Slot and register of a state.
+pub fn place(state: &FrameState) -> [u32; 2] {
+    [state.slot(), state.register()]
+}
+
+/// How many rows the parity table of a rate has.
+pub fn rows(rate: Rate) -> usize {
+    ROWS[rate as usize - 1]
 }
 
 /// What a rate and a lent table of its form fix.
-pub fn code(rate: usize, table: &[u16]) -> Code {
-    let tables = reference::tables::taken(&[ROWS[rate - 1]], table);
+pub fn code(rate: Rate, table: &[u16]) -> Code {
+    let tables = reference::tables::taken(&[rows(rate)], table);
     Code::new(tables.expect("a table of its form").swap_remove(0))
 }
 

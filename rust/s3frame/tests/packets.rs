@@ -1,0 +1,132 @@
+//! Slots of header and packets beside the second implementation.
+mod common;
+use common::{code, groups, number, place, trials, twin, Random};
+use reference::calls;
+use s3frame::{pack, FrameState, Modulation, Rate, Refusal, HEADER_OCTETS, SLOT_OCTETS};
+
+/// What a slot carries.
+#[derive(Clone, PartialEq)]
+struct Carried {
+    header: Vec<u8>,
+    packets: Vec<u8>,
+}
+
+impl Carried {
+    /// A header and packets of a rate to send.
+    fn new(random: &mut Random, rate: Rate) -> Carried {
+        Carried { header: random.source(HEADER_OCTETS), packets: random.packets(rate) }
+    }
+
+    /// Areas to read into.
+    fn found(random: &mut Random, rate: Rate) -> Carried {
+        Carried { header: random.octets(HEADER_OCTETS), packets: random.octets(rate.packet_octets()) }
+    }
+}
+
+/// Codes a slot both ways and compares; gives the slot and the state after it.
+fn coded(random: &mut Random, state: FrameState, table: &[u16], sent: &Carried) -> (Vec<u8>, FrameState) {
+    let found = random.octets(SLOT_OCTETS);
+    let [mut ours, mut theirs] = [found.clone(), found];
+    let (groups, mut next) = (groups(state.plan()), place(&state));
+    let Carried { header, packets } = sent;
+    assert_eq!(calls::code_packets(&twin(&groups, &state), table, header, packets, &mut theirs, &mut next), 0);
+    let after = state.code_packets(table, header, packets, &mut ours).expect("a slot that is coded");
+    assert_eq!(place(&after), next);
+    assert!(ours == theirs, "the slots differ");
+    (ours, after)
+}
+
+/// Reads a slot both ways and compares; gives the number, what was read and the state after it.
+fn read(random: &mut Random, state: FrameState, table: &[u16], slot: &[u8], rate: Rate) -> (u32, Carried, FrameState) {
+    let found = Carried::found(random, rate);
+    let [mut ours, mut theirs] = [found.clone(), found.clone()];
+    let (groups, mut next) = (groups(state.plan()), place(&state));
+    let twin = twin(&groups, &state);
+    let expected = calls::read_packets(&twin, table, slot, &mut theirs.header, &mut theirs.packets, &mut next);
+    let read = state.read_packets(table, slot, &mut ours.header, &mut ours.packets);
+    assert_eq!(number(read.answer), expected.into());
+    assert_eq!(place(&read.state), next);
+    assert!(ours == theirs, "what was read differs");
+    assert!(expected == 0 || ours == found, "a refused slot writes nothing");
+    (expected.into(), ours, read.state)
+}
+
+/// The slot of a header and packets by packing and coding apart.
+fn packed_and_coded(state: FrameState, rate: Rate, table: &[u16], sent: &Carried) -> (Vec<u8>, FrameState) {
+    let (mut data, mut slot) = (vec![0; rate.data_octets()], vec![0; SLOT_OCTETS]);
+    assert_eq!(pack(rate, &sent.packets, &mut data), Ok(()));
+    let source = [&sent.header[..], &data].concat();
+    let after = state.code_slot(table, &source, &mut slot).expect("a slot that is coded");
+    (slot, after)
+}
+
+/// Codes one slot, reads it whole and damaged in each way.
+fn slot_of(random: &mut Random, modulation: Modulation, rate: Rate) {
+    let (state, table) = (random.state(modulation, rate), random.table(rate));
+    let sent = Carried::new(random, rate);
+    let (slot, after) = coded(random, state, &table, &sent);
+    assert!((slot.clone(), after) == packed_and_coded(state, rate, &table, &sent));
+    assert!(read(random, state, &table, &slot, rate) == (0, sent, after), "header and packets come back");
+    for damage in [8, 9, 10] {
+        let slot = random.damaged(&code(rate, &table), &slot, damage);
+        let (number, _, moved) = read(random, state, &table, &slot, rate);
+        assert_eq!((number, moved), (damage.into(), after), "the state after damage is that after a good slot");
+    }
+}
+
+#[test]
+fn every_rate_and_modulation() {
+    let mut random = Random::new(81);
+    for _ in 0..trials(4) {
+        for modulation in Modulation::ALL {
+            for rate in Rate::ALL {
+                slot_of(&mut random, modulation, rate);
+            }
+        }
+    }
+}
+
+/// Both calls on areas one octet longer than they should be, where asked; a state that is refused stays, and nothing is
+/// written.
+fn refused(random: &mut Random, state: FrameState, table: &[u16], sent: &Carried, longer: [usize; 3]) -> [u32; 2] {
+    let [header, packets] = [&sent.header, &sent.packets].map(|octets| octets.as_slice());
+    let [header, packets] = [[header, &vec![0; longer[0]]].concat(), [packets, &vec![0; longer[1]]].concat()];
+    let found = random.octets(SLOT_OCTETS + longer[2]);
+    let (mut coded, mut head, mut back) = (found.clone(), header.clone(), packets.clone());
+    let coding = state.code_packets(table, &header, &packets, &mut coded);
+    let read = state.read_packets(table, &found, &mut head, &mut back);
+    assert!(coded == found && (head, back) == (header, packets), "a refusal changes no area");
+    assert_eq!(read.state, state);
+    [number(coding), number(read.answer)]
+}
+
+#[test]
+fn a_refused_state_stays() {
+    let mut random = Random::new(82);
+    let (rate, sound) = (Rate::R7_9, random.state(Modulation::Apsk16, Rate::R7_9));
+    let at = |slot, register| FrameState::at(*sound.plan(), sound.settings(), slot, register);
+    let (table, sent) = (random.table(rate), Carried::new(&mut random, rate));
+    let mut unsynced = sent.clone();
+    unsynced.packets[188] = 0x46;
+    let mut numbers = |state, table: &[u16], sent, longer| refused(&mut random, state, table, sent, longer);
+    assert_eq!(numbers(at(0, 0), &[], &unsynced, [1; 3]), [1, 1]);
+    assert_eq!(numbers(at(121, 0), &[], &unsynced, [1; 3]), [6, 6]);
+    assert_eq!(numbers(at(121, 1), &[], &unsynced, [1; 3]), [3, 3]);
+    assert_eq!(numbers(sound, &[], &unsynced, [0, 1, 0]), [4, 4]);
+    assert_eq!(numbers(sound, &[], &unsynced, [1, 0, 0]), [7, 4]);
+    assert_eq!(numbers(sound, &[], &unsynced, [0, 0, 1]), [7, 4]);
+    assert_eq!(numbers(sound, &[], &sent, [1, 0, 0]), [4, 4]);
+    assert_eq!(numbers(sound, &[], &sent, [0, 0, 1]), [4, 4]);
+    assert_eq!(numbers(sound, &table[1..], &sent, [0; 3]), [5, 5]);
+}
+
+#[test]
+fn a_dummy_carries_no_packets() {
+    let mut random = Random::new(83);
+    let sound = random.state(Modulation::Bpsk, Rate::R1_3);
+    let dummy = (1..=120).find(|&slot| sound.plan().place(slot).map_or(false, |place| !place.data));
+    let state = FrameState::at(*sound.plan(), sound.settings(), dummy.expect("BPSK has dummies"), sound.register());
+    assert_eq!(state.code_packets(&[], &[], &[], &mut []), Err(Refusal::Dummy));
+    let read = state.read_packets(&[], &[], &mut [], &mut []);
+    assert_eq!((read.answer, read.state), (Err(Refusal::Dummy), state));
+}
