@@ -203,9 +203,12 @@ fn tell_run(
         return Ok(());
     }
     let [name, second] = names;
-    let (count, first, last) = (run.len(), run.start, run.end - 1);
+    let numbers = match run.len() {
+        1 => format!("1 packet, {}", run.start),
+        count => format!("{count} packets, {} to {}", run.start, run.end - 1),
+    };
     let after = if other < packets { format!("goes on at {other}") } else { "has ended".to_string() };
-    report.line(format_args!("only in {name}: {count} packets, {first} to {last}; {second} {after}"))
+    report.line(format_args!("only in {name}: {numbers}; {second} {after}"))
 }
 
 #[cfg(test)]

@@ -1,0 +1,141 @@
+"""Wrong words, settings and files, outputs over inputs, terminals and signals: what is said, and that nothing is left."""
+import os
+import pty
+import re
+import signal
+import stat
+import subprocess
+
+from common import COMMAND, MASK, SETTINGS, START, WORKED, check, equal, frames_of, got, put, refused, samples, well
+
+
+def settings(job, given):
+    """A wrong plan, mask or start; `given` is an input that the job would take."""
+    def with_settings(plan, mask, start):
+        return [job, "--plan", plan, "--mask", mask, "--start", start, given, "-o", "out"]
+
+    for what, plan, why in [("a plan of 116 slots", "4 7 111\n2 3 5\n", "its groups break a rule"), ("no plan", "", "there are no lines"),
+                            ("a long plan", WORKED * 20, "the text has more than 128 octets")]:
+        put("wrong", plan)
+        refused(what, with_settings("wrong", MASK, START), f"^s3frame {job}: wrong: refused 1 plan: {why}")
+    refused("a missing plan", with_settings("missing", MASK, START), f"^s3frame {job}: missing: No such file")
+    refused("a plan that is a folder", with_settings(".", MASK, START), rf"^s3frame {job}: \.: Is a directory")
+    for what, mask, start in [("a mask that is no number", "12a", START), ("a mask of 33 bits", "4294967296", START),
+                              ("a start that is no number", MASK, "0x"), ("a start below 0", MASK, "+1")]:
+        refused(what, with_settings("plan", mask, start), "^s3frame: .*no number of at most 32 bits")
+    for what, mask, start in [("a mask without the top weight", "0x1", "5"), ("a mask too wide", "0x2000000", START),
+                              ("a start of 0", MASK, "0"), ("a start too wide", MASK, "33554432")]:
+        refused(what, with_settings("plan", mask, start), f"^s3frame {job}: mask {mask} and start {start}: refused 6 register: ")
+
+
+def words_and_files(job, given):
+    good = [job, *SETTINGS, given]
+    refused("a missing input", [job, *SETTINGS, "missing", "-o", "out"], f"^s3frame {job}: missing: No such file")
+    refused("an input that is a folder", [job, *SETTINGS, ".", "-o", "out"], rf"^s3frame {job}: \.: Is a directory")
+    refused("a folder that is missing", [*good, "-o", "none/out"], f"^s3frame {job}: none/out: No such file")
+    refused("an output that is a folder", [*good, "-o", "."], rf"^s3frame {job}: \.: Is a directory")
+    refused("an unknown word", [*good, "-o", "out", "--unknown"], "^s3frame: .*--unknown")
+    refused("too many words", [*good, "more", "-o", "out"], "^s3frame: .*more")
+    refused("no mask", [job, "--plan", "plan", "--start", "1", given, "-o", "out"], "^s3frame: (.|\n)*--mask")
+    refused("missing headers", [*good, "-o", "out", "--headers", "none/headers"], f"^s3frame {job}: none/headers: No such file")
+
+
+def one_file_twice():
+    os.symlink("packets", "link")
+    os.link("packets", "hard")
+    packets = got("packets")
+    for name in ("packets", "./packets", "link", "hard"):
+        refused(f"frames over their packets, as {name}", ["code", *SETTINGS, "packets", "-o", name], f"^s3frame code: {name}: is the same file")
+    refused("frames over the plan", ["code", *SETTINGS, "packets", "-o", "plan"], "^s3frame code: plan: is the same file as plan")
+    refused("frames over headers", ["code", *SETTINGS, "--headers", "frames", "packets", "-o", "frames"], "^s3frame code: frames: is the same")
+    refused("a picture over the plan", ["plan", "plan", "--svg", "plan"], "^s3frame plan: plan: is the same file as plan")
+    monitor = ["monitor", *SETTINGS, "frames"]
+    refused("packets over their frames", [*monitor, "-o", "frames"], "^s3frame monitor: frames: is the same file as frames")
+    refused("two outputs that are there", [*monitor, "-o", "out", "--json", "./out"], "^s3frame monitor: ./out: is the same file as out")
+    refused("two outputs that are not there", [*monitor, "-o", "new", "--svg", "./new"], "^s3frame monitor: ./new: is the same file as new")
+    refused("two outputs on standard output", [*monitor, "--json", "-"], "^s3frame monitor: standard output: cannot take two outputs")
+    refused("standard input twice", ["compare", "-", "-"], "^s3frame compare: standard input: cannot be read twice")
+    with open("packets", "rb") as given, open("packets", "ab") as out:
+        result = subprocess.run([COMMAND, "code", *SETTINGS], stdin=given, stdout=out, stderr=subprocess.PIPE, text=True)
+    check(f"frames behind their packets: {result.stderr}", result.returncode == 2 and "standard output: is the same file" in result.stderr)
+    equal("the packets are as they were", got("packets"), packets)
+    os.remove("link")
+    os.remove("hard")
+
+
+def names_and_permissions():
+    """A finished file has the permissions of any new file; a link to an output stays a link."""
+    before = os.umask(0o027)
+    well("code under a umask", "code", *SETTINGS, "packets", "-o", "fresh")
+    os.umask(before)
+    equal("permissions", stat.S_IMODE(os.stat("fresh").st_mode), 0o640)
+    os.symlink("fresh", "link")
+    put("fresh", "earlier")
+    well("code through a link", "code", *SETTINGS, "packets", "-o", "link")
+    check("the link stays, and its file is made", os.path.islink("link") and got("fresh") == got("frames"))
+    os.remove("link")
+    os.remove("fresh")
+
+
+def terminals():
+    """Octets do not go to a terminal, or come from one."""
+    ours, theirs = pty.openpty()
+    for what, streams, line in [("output to a terminal", {"stdin": subprocess.DEVNULL, "stdout": theirs}, "standard output: is a terminal: .*-o"),
+                                ("input from a terminal", {"stdin": theirs, "stdout": subprocess.PIPE}, "standard input: is a terminal: name a file")]:
+        for job, given in (("code", "packets"), ("monitor", "frames")):
+            words = [COMMAND, job, *SETTINGS, *([given] if streams["stdout"] == theirs else [])]
+            result = subprocess.run(words, stderr=subprocess.PIPE, text=True, timeout=60, **streams)
+            check(f"{job}, {what}: {result.stderr}", result.returncode == 2 and re.match(f"s3frame {job}: {line}", result.stderr))
+    os.close(theirs)
+    os.close(ours)
+
+
+def interrupted(number):
+    """A signal while the input is open: the run ends by it, and leaves only what was there before."""
+    outputs = ["out", "out.json", "out.svg"]
+    for name in outputs:
+        put(name, "earlier")
+    before = sorted(os.listdir("."))
+    words = [COMMAND, "monitor", *SETTINGS, "-o", "out", "--json", "out.json", "--svg", "out.svg"]
+    with subprocess.Popen(words, stdin=subprocess.PIPE, stdout=subprocess.PIPE) as monitor:
+        monitor.stdin.write(got("frames"))
+        monitor.stdin.flush()
+        equal("the first frame is read", monitor.stdout.readline()[:17], b"frame 1 accepted ")
+        equal("three files are in the making", len(os.listdir(".")), len(before) + 3)
+        monitor.send_signal(number)
+        equal("the run ends by the signal", monitor.wait(60), -number)
+    equal("an interrupted run leaves nothing", sorted(os.listdir(".")), before)
+    check("earlier outputs stay", all(got(name) == b"earlier" for name in outputs))
+
+
+def closed_pipe():
+    """A frame is longer than a pipe holds, so that its writer sees the other end close."""
+    with subprocess.Popen([COMMAND, "code", *SETTINGS, "packets"], stdout=subprocess.PIPE, stderr=subprocess.PIPE, text=True) as code:
+        code.stdout.close()
+        told = code.stderr.read()
+    check(f"a pipe that closes: {told}", code.returncode == 2 and told.startswith("s3frame code: standard output: Broken pipe"))
+
+
+def help_pages():
+    version = well("the version", "--version")
+    check(f"the version: {version}", re.fullmatch(r"s3frame \d+\.\d+\.\d+\n", version))
+    for words in ([], ["plan"], ["code"], ["monitor"], ["compare"]):
+        page = well(f"help of {words}", *words, "--help")
+        check(f"help of {words} tells use, status and an example", all(part in page for part in ("Usage: s3frame", "EXIT STATUS", "EXAMPLE")))
+    refused("no words", [], "Usage: s3frame")
+
+
+def test():
+    packets = samples(40)
+    put("frames", frames_of(WORKED, packets))
+    put("packets", packets)
+    for job, given in (("code", "packets"), ("monitor", "frames")):
+        settings(job, given)
+        words_and_files(job, given)
+    one_file_twice()
+    names_and_permissions()
+    terminals()
+    interrupted(signal.SIGTERM)
+    interrupted(signal.SIGINT)
+    closed_pipe()
+    help_pages()
