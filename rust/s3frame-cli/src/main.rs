@@ -30,7 +30,10 @@ fn words() -> Words {
             error.exit();
         }
         let text = error.to_string();
-        eprint!("s3frame: {}", text.strip_prefix("error: ").unwrap_or(&text));
+        match text.strip_prefix("error: ") {
+            Some(wrong) => eprint!("s3frame: {wrong}"),
+            None => eprint!("{text}"),
+        }
         exit(STOPPED)
     })
 }

@@ -25,7 +25,7 @@ impl Unfinished {
     /// Makes the file that gets its place later.
     fn begin(place: PathBuf) -> io::Result<(Unfinished, File)> {
         let name = place.file_name().ok_or(io::ErrorKind::InvalidInput)?.to_os_string();
-        let beside = folder_of(&place);
+        let beside = fs::canonicalize(folder_of(&place))?;
         let folder = interrupt::undisturbed(|unfinished| {
             let folder = tempfile::Builder::new().prefix(".s3frame-").tempdir_in(beside)?;
             unfinished.push(folder.path().to_path_buf());

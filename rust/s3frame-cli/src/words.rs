@@ -8,26 +8,39 @@ const STATUS: &str = "\
 EXIT STATUS
   0  all is well
   1  slots are refused, lists differ, or a stream ends inside a packet or a frame
-  2  wrong use, a file that cannot be read or written, a refused plan or setting; no output is left
+  2  wrong use, a file that cannot be read or written, a refused plan or setting;
+     no file is left
 
-A run that is interrupted (SIGINT, SIGTERM) ends by the signal, and leaves no output.";
+A run that is interrupted (SIGINT, SIGTERM) ends by the signal, and leaves no file.";
 
 const PLAN_FORM: &str = "\
 PLAN
   A line for each of 1 to 8 groups: modulation, rate and slots, as `4 7 115`.
+
   modulation  1 π/2-shift BPSK, 2 QPSK, 3 8PSK, 4 16APSK, 5 32APSK
   rate        1 1/3, 2 2/5, 3 1/2, 4 3/5, 5 2/3, 6 3/4, 7 7/9, 8 4/5, 9 5/6, 10 7/8, 11 9/10
   slots       a multiple of 5 above 0; all lines add to 120
-  Higher modulations come first and, within one, higher rates; no two lines have both alike. Numbers have 1 to 3 digits and
-  no leading zeros, one space stands between them, a line feed after each line. The text has 128 octets at most.";
+
+  Higher modulations come first and, within one, higher rates; no two lines have both alike.
+  Numbers have 1 to 3 digits and no leading zeros. One space stands between them, a line feed
+  after each line. The text has 128 octets at most.";
 
 const FRAME_FORM: &str = "\
 FILES
-  Packets are TS packets of 188 octets, end to end, each beginning 0x47. A frame has 673,200 octets: 120 slots of 5,610. The
-  parity tables are the published ones. Headers are 22 octets for each data slot, in the order of the slots.
-  `-`, or no name, is standard input or output. A file that is made gets its name once it is whole; until then an earlier
-  file of that name stays. No output may be an input, or another output.
-  Messages and, where an output stands on standard output, the report go to standard error.";
+  Packets are TS packets of 188 octets, end to end, each beginning 0x47. A frame has 673,200
+  octets: 120 slots of 5,610. Headers are 22 octets for each data slot, in the order of the
+  slots. The parity tables are the published ones.
+
+  `-`, or no name, is standard input or output. A file that is made gets its name once it is
+  whole; until then an earlier file of that name stays. No output may be an input, or another
+  output. The report goes to standard output or, where an output stands there, to standard
+  error.";
+
+const JSON_FORM: &str = "\
+JSON
+  One document. `plan`, `mask` and `start` are the settings. `frames` is a list: each frame's
+  numbers as in its line, and `refused`, the list of its refused slots. `total` has the numbers
+  of all frames, `left_over` the octets behind the last whole one.";
 
 /// Sections of a help page, an empty line between.
 fn page(sections: &[&str]) -> String {
@@ -113,9 +126,9 @@ pub struct CodeWords {
     /// The headers of the data slots; without it they are zeros
     #[arg(long, value_name = "FILE")]
     pub headers: Option<PathBuf>,
-    /// The packets
+    /// The packets; standard input without it
     pub input: Option<PathBuf>,
-    /// The frames
+    /// The frames; standard output without it
     #[arg(short, long)]
     pub output: Option<PathBuf>,
 }
@@ -129,17 +142,14 @@ pub struct CodeWords {
 ///
 /// Where the frames end inside one, those before it are read.
 #[derive(Args)]
-#[command(after_long_help = page(&[PLAN_FORM, FRAME_FORM,
-    "JSON\n  One document: plan, mask and start; frames, a list with each frame's numbers as in its line and its list of refused \
-     slots;\n  total, the numbers of all frames; left_over, the octets behind the last whole frame.",
-    STATUS,
-    "EXAMPLE\n  s3frame monitor --plan plan.txt --mask 0x1234567 --start 1 frames -o back.ts --json report.json --svg slots.svg"]))]
+#[command(after_long_help = page(&[PLAN_FORM, FRAME_FORM, JSON_FORM, STATUS,
+    "EXAMPLE\n  s3frame monitor --plan plan.txt --mask 0x1234567 --start 1 frames -o back.ts --svg slots.svg"]))]
 pub struct MonitorWords {
     #[command(flatten)]
     pub settings: SettingWords,
-    /// The frames
+    /// The frames; standard input without it
     pub input: Option<PathBuf>,
-    /// The packets
+    /// The packets; standard output without it
     #[arg(short, long, value_name = "PACKETS")]
     pub output: Option<PathBuf>,
     /// Writes the headers of accepted slots into this file
