@@ -37,14 +37,17 @@ pub struct Plan {
 }
 
 impl Plan {
-    /// The plan of these groups, or [`Refusal::Plan`]. The library itself decides.
+    /// The plan of these groups.
+    ///
+    /// Refused: [`Refusal::Plan`].
     pub fn new(groups: &[Group]) -> Result<Plan, Refusal> {
         let three = |group: &Group| [group.modulation as u8, group.rate as u8, group.slots];
         Plan::of_octets(&groups.iter().flat_map(three).collect::<Vec<u8>>())
     }
 
-    /// The plan of three octets for each group, modulation, rate and slots; or [`Refusal::Plan`]. Any octets may be given:
-    /// the library itself decides.
+    /// The plan of three octets for each group: modulation, rate and slots. Any octets may be given: the library decides.
+    ///
+    /// Refused: [`Refusal::Plan`].
     pub fn of_octets(octets: &[u8]) -> Result<Plan, Refusal> {
         // Every accepted plan has a slot 1, so that asking for its place asks of the plan alone.
         place(octets, 1)?;

@@ -14,8 +14,8 @@ pub struct SlotSettings {
 
 /// A place in a frame: the plan, its settings, the next slot and the register there.
 ///
-/// A call on a slot gives the state moved on and leaves the one it was called on as it is. Every call on a slot is refused
-/// [`Refusal::Plan`] (slot number 0), [`Refusal::Register`] and [`Refusal::Full`] before anything else is tested.
+/// A call on a slot gives the state moved on and leaves the one it was called on as it is. It tests the state first, which is
+/// refused [`Refusal::Plan`] (slot number 0), [`Refusal::Register`] or [`Refusal::Full`].
 #[derive(Clone, Copy, Debug, PartialEq, Eq, Hash)]
 pub struct FrameState {
     plan: Plan,
@@ -71,9 +71,9 @@ impl FrameState {
         self.register
     }
 
-    /// The number of a call on the next slot, and the state that it leaves. The call itself leaves `next` as found where the
-    /// state stays.
-    fn called(self, call: impl FnOnce(At, &mut [u32]) -> u32) -> SlotRead {
+    /// The answer of a call on the next slot, and the state after it. The call itself leaves `next` as found where the state
+    /// stays.
+    fn called(self, call: impl FnOnce(At<'_>, &mut [u32]) -> u32) -> SlotRead {
         let FrameState { ref plan, settings: SlotSettings { mask, start }, slot, register } = self;
         let mut next = [slot, register];
         let number = call(At { plan: plan.octets(), mask, start, slot, register }, &mut next);
@@ -81,14 +81,14 @@ impl FrameState {
     }
 
     /// The state moved on, or the refusal, of a call that stays wherever it is refused.
-    fn moved(self, call: impl FnOnce(At, &mut [u32]) -> u32) -> Result<FrameState, Refusal> {
+    fn moved(self, call: impl FnOnce(At<'_>, &mut [u32]) -> u32) -> Result<FrameState, Refusal> {
         let SlotRead { answer, state } = self.called(call);
         answer.map(|()| state)
     }
 
     /// Passes a dummy.
     ///
-    /// Refused: [`Refusal::Dummy`] (at a data slot).
+    /// Refused: as its state is, then [`Refusal::Dummy`] (at a data slot).
     pub fn pass(self) -> Result<FrameState, Refusal> {
         self.moved(calls::pass)
     }
@@ -96,14 +96,15 @@ impl FrameState {
     /// Codes the next slot: header and data, [`Rate::source_octets`] of the rate at its place, into
     /// [`SLOT_OCTETS`](crate::SLOT_OCTETS), by a parity table of that rate.
     ///
-    /// Refused: [`Refusal::Dummy`], [`Refusal::Length`], [`Refusal::Table`]; `coded` is then as it was.
+    /// Refused: as its state is, then [`Refusal::Dummy`], [`Refusal::Length`], [`Refusal::Table`]; `coded` is then as it was.
     pub fn code_slot(self, table: &[u16], source: &[u8], coded: &mut [u8]) -> Result<FrameState, Refusal> {
         self.moved(|at, next| calls::code_slot(at, table, source, coded, next))
     }
 
-    /// Reads the next slot; the lengths are those of [`code_slot`](FrameState::code_slot).
+    /// Reads the next slot; the lengths are those of coding it.
     ///
-    /// Refused: as coding is, then [`Refusal::Parity`], [`Refusal::Bch`], [`Refusal::Stuff`]; `source` is then as it was.
+    /// Refused: as [`code_slot`](FrameState::code_slot) is, then [`Refusal::Parity`], [`Refusal::Bch`], [`Refusal::Stuff`];
+    /// `source` is then as it was.
     pub fn read_slot(self, table: &[u16], coded: &[u8], source: &mut [u8]) -> SlotRead {
         self.called(|at, next| calls::read_slot(at, table, coded, source, next))
     }
@@ -111,8 +112,8 @@ impl FrameState {
     /// Codes the next slot from [`HEADER_OCTETS`](crate::HEADER_OCTETS) and its packets, [`Rate::packet_octets`] of the rate
     /// at its place, into [`SLOT_OCTETS`](crate::SLOT_OCTETS), by a parity table of that rate.
     ///
-    /// Refused: [`Refusal::Dummy`], [`Refusal::Length`] of the packets, [`Refusal::Sync`], [`Refusal::Length`] of the other
-    /// areas, [`Refusal::Table`]; `coded` is then as it was.
+    /// Refused: as its state is, then [`Refusal::Dummy`], [`Refusal::Length`] of the packets, [`Refusal::Sync`],
+    /// [`Refusal::Length`] of the other areas, [`Refusal::Table`]; `coded` is then as it was.
     pub fn code_packets(
         self,
         table: &[u16],
@@ -123,11 +124,9 @@ impl FrameState {
         self.moved(|at, next| calls::code_packets(at, table, header, packets, coded, next))
     }
 
-    /// Reads the next slot into its header and its packets; the lengths are those of
-    /// [`code_packets`](FrameState::code_packets).
+    /// Reads the next slot into its header and its packets; the lengths are those of coding it from them.
     ///
-    /// Refused: [`Refusal::Dummy`], [`Refusal::Length`], [`Refusal::Table`], [`Refusal::Parity`], [`Refusal::Bch`],
-    /// [`Refusal::Stuff`]; `header` and `packets` are then as they were.
+    /// Refused: as [`read_slot`](FrameState::read_slot) is; `header` and `packets` are then as they were.
     pub fn read_packets(self, table: &[u16], coded: &[u8], header: &mut [u8], packets: &mut [u8]) -> SlotRead {
         self.called(|at, next| calls::read_packets(at, table, coded, header, packets, next))
     }

@@ -109,3 +109,24 @@ fn plans_of_chance() {
     }
     println!("counted {} frames coded", trials(11));
 }
+
+/// Frames refused for each reason that the types leave; nothing is written.
+#[test]
+fn a_refused_frame_writes_nothing() {
+    let mut random = Random::new(13);
+    let (plan, settings) = (random.plan(), random.slot_settings());
+    let (tables, source) = (random.tables(&plan).concat(), random.octets(plan.source_octets()));
+    let stopped = SlotSettings { start: 0, ..settings };
+    let cases = [
+        (stopped, &tables[1..], &source[1..], Refusal::Register),
+        (settings, &tables[1..], &source[1..], Refusal::Length),
+        (settings, &tables[1..], &source[..], Refusal::Table),
+    ];
+    for (settings, tables, source, refusal) in cases {
+        let found = random.octets(FRAME_OCTETS);
+        let (mut frame, mut back) = (found.clone(), source.to_vec());
+        assert_eq!(code_frame(&plan, settings, tables, source, &mut frame), Err(refusal));
+        assert_eq!(read_frame(&plan, settings, tables, &found, &mut back), Err(refusal));
+        assert!(frame == found && back == source);
+    }
+}

@@ -276,7 +276,7 @@ mod tests {
         let (mut packets, mut slot, mut next) = (vec![0; 1880], vec![0; slot::OCTETS], [0, 0]);
         assert_eq!(packets::unpack(1, &data, &mut packets), 0);
         assert_eq!(code_packets(&state(&plan, 1, 5), &table, &header, &packets, &mut slot, &mut next), 0);
-        let code = code_of(41, &table).ok().expect("a printed table");
+        let code = code_of(41, &table).expect("a printed table");
         let source = [&header[..], &data].concat();
         assert_eq!((slot.clone(), next[1]), slot::code_slot(&code, MASK, 5, &source));
 

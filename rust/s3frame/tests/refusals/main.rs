@@ -1,8 +1,7 @@
 //! Every refusal of every call: each choice of what may be wrong, so that the order shows too, and each area octet for octet
 //! after the call.
 //!
-//! The calls are those of the crate's own source: its types rule out some of what is wrong here, and no one else is to call
-//! them.
+//! The calls are taken from the crate's source, where they are private: its types rule out much of what is wrong here.
 mod blocks;
 #[path = "../../src/calls.rs"]
 mod calls;

@@ -21,6 +21,12 @@ impl Carried {
     fn found(random: &mut Random, rate: Rate) -> Carried {
         Carried { header: random.octets(HEADER_OCTETS), packets: random.octets(rate.packet_octets()) }
     }
+
+    /// The same with so many octets more.
+    fn longer(&self, header: usize, packets: usize) -> Carried {
+        let longer = |octets: &[u8], count| [octets, &vec![0; count]].concat();
+        Carried { header: longer(&self.header, header), packets: longer(&self.packets, packets) }
+    }
 }
 
 /// Codes a slot both ways and compares; gives the slot and the state after it.
@@ -86,16 +92,14 @@ fn every_rate_and_modulation() {
     }
 }
 
-/// Both calls on areas one octet longer than they should be, where asked; a state that is refused stays, and nothing is
-/// written.
+/// The numbers of both calls whose header, packets and slot are longer than their lengths by so much; the state stays, and
+/// nothing is written.
 fn refused(random: &mut Random, state: FrameState, table: &[u16], sent: &Carried, longer: [usize; 3]) -> [u32; 2] {
-    let [header, packets] = [&sent.header, &sent.packets].map(|octets| octets.as_slice());
-    let [header, packets] = [[header, &vec![0; longer[0]]].concat(), [packets, &vec![0; longer[1]]].concat()];
-    let found = random.octets(SLOT_OCTETS + longer[2]);
-    let (mut coded, mut head, mut back) = (found.clone(), header.clone(), packets.clone());
-    let coding = state.code_packets(table, &header, &packets, &mut coded);
-    let read = state.read_packets(table, &found, &mut head, &mut back);
-    assert!(coded == found && (head, back) == (header, packets), "a refusal changes no area");
+    let (sent, found) = (sent.longer(longer[0], longer[1]), random.octets(SLOT_OCTETS + longer[2]));
+    let (mut back, mut coded) = (sent.clone(), found.clone());
+    let coding = state.code_packets(table, &sent.header, &sent.packets, &mut coded);
+    let read = state.read_packets(table, &found, &mut back.header, &mut back.packets);
+    assert!(back == sent && coded == found, "a refusal changes no area");
     assert_eq!(read.state, state);
     [number(coding), number(read.answer)]
 }
@@ -124,8 +128,9 @@ fn a_refused_state_stays() {
 fn a_dummy_carries_no_packets() {
     let mut random = Random::new(83);
     let sound = random.state(Modulation::Bpsk, Rate::R1_3);
-    let dummy = (1..=120).find(|&slot| sound.plan().place(slot).map_or(false, |place| !place.data));
-    let state = FrameState::at(*sound.plan(), sound.settings(), dummy.expect("BPSK has dummies"), sound.register());
+    let plan = *sound.plan();
+    let dummy = (1..=120).find(|&slot| !plan.place(slot).expect("a slot of the frame").data);
+    let state = FrameState::at(plan, sound.settings(), dummy.expect("BPSK has dummies"), sound.register());
     assert_eq!(state.code_packets(&[], &[], &[], &mut []), Err(Refusal::Dummy));
     let read = state.read_packets(&[], &[], &mut [], &mut []);
     assert_eq!((read.answer, read.state), (Err(Refusal::Dummy), state));
