@@ -6,7 +6,7 @@ import signal
 import stat
 import subprocess
 
-from common import COMMAND, MASK, SETTINGS, START, WORKED, check, equal, frames_of, got, put, refused, samples, well
+from common import COMMAND, MASK, SETTINGS, START, WORKED, check, equal, frames_of, got, put, refused, run, samples, well
 
 
 def settings(job, given):
@@ -55,12 +55,24 @@ def one_file_twice():
     refused("two outputs that are not there", [*monitor, "-o", "new", "--svg", "./new"], "^s3frame monitor: ./new: is the same file as new")
     refused("two outputs on standard output", [*monitor, "--json", "-"], "^s3frame monitor: standard output: cannot take two outputs")
     refused("standard input twice", ["compare", "-", "-"], "^s3frame compare: standard input: cannot be read twice")
-    with open("packets", "rb") as given, open("packets", "ab") as out:
-        result = subprocess.run([COMMAND, "code", *SETTINGS], stdin=given, stdout=out, stderr=subprocess.PIPE, text=True)
-    check(f"frames behind their packets: {result.stderr}", result.returncode == 2 and "standard output: is the same file" in result.stderr)
+    for name, words in (("standard output", []), ("packets", ["-o", "packets"])):
+        with open("packets", "rb") as given, open("packets", "ab") as out:
+            result = subprocess.run([COMMAND, "code", *SETTINGS, *words], stdin=given, stdout=out, stderr=subprocess.PIPE, text=True)
+        check(f"frames over standard input, as {name}: {result.stderr}",
+              result.returncode == 2 and result.stderr.startswith(f"s3frame code: {name}: is the same file as standard input"))
     equal("the packets are as they were", got("packets"), packets)
     os.remove("link")
     os.remove("hard")
+
+
+def full_devices():
+    """A device that takes nothing: status 2, for what is written and for the report."""
+    for words in (["code", *SETTINGS, "packets", "-o", "/dev/full"], ["monitor", *SETTINGS, "frames", "-o", "out", "--json", "/dev/full"]):
+        status, _, told = run(*words)
+        check(f"a full device: {told}", status == 2 and f"s3frame {words[0]}: /dev/full: No space left" in told)
+    with open("/dev/full", "wb") as full:
+        result = subprocess.run([COMMAND, "plan", "plan"], stdout=full, stderr=subprocess.PIPE, text=True)
+    check(f"a full standard output: {result.stderr}", result.returncode == 2 and "standard output: No space left" in result.stderr)
 
 
 def names_and_permissions():
@@ -133,6 +145,7 @@ def test():
         settings(job, given)
         words_and_files(job, given)
     one_file_twice()
+    full_devices()
     names_and_permissions()
     terminals()
     interrupted(signal.SIGTERM)

@@ -38,7 +38,7 @@ pub fn run(words: &CodeWords) -> Result<Outcome, Failure> {
     coder.code_all()?;
     report.line(format_args!("frames {} packets {} null {}", coder.frames, coder.packets, coder.nulls))?;
     outputs::keep([coder.output])?;
-    Ok(Outcome::default().left_over(coder.input.name(), "packet", coder.left_over))
+    Ok(Outcome::new(false).left_over(coder.input.name(), "packet", coder.left_over))
 }
 
 impl Coder {

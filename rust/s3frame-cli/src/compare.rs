@@ -104,7 +104,7 @@ pub fn run(words: &CompareWords) -> Result<Outcome, Failure> {
     received.count("RECEIVED", &mut report)?;
     let comparison = compare(front, &rests[0], &rests[1], PATIENCE);
     tell(&comparison, [sent.packets, received.packets], &mut report)?;
-    let outcome = Outcome { found: !comparison.gaps.is_empty(), cut: Vec::new() };
+    let outcome = Outcome::new(!comparison.gaps.is_empty());
     let outcome = outcome.left_over(sent.input.name(), "packet", sent.left_over);
     Ok(outcome.left_over(received.input.name(), "packet", received.left_over))
 }

@@ -38,13 +38,17 @@ impl Display for Failure {
 }
 
 /// How a run went that came to its end: whether it found slots refused or lists that differ, and streams that were cut.
-#[derive(Default)]
 pub struct Outcome {
     pub found: bool,
     pub cut: Vec<Failure>,
 }
 
 impl Outcome {
+    /// The outcome of a run whose streams were whole so far.
+    pub fn new(found: bool) -> Outcome {
+        Outcome { found, cut: Vec::new() }
+    }
+
     /// The outcome with one stream more, of which so many octets were left over behind its last whole unit.
     pub fn left_over(mut self, name: &str, unit: &str, octets: usize) -> Outcome {
         if octets > 0 {

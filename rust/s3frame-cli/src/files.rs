@@ -85,6 +85,11 @@ impl Files {
         }
     }
 
+    /// Creates a file to write that is left out where no word names it.
+    pub fn create_named(&mut self, word: Option<&Path>, content: Content) -> Result<Option<Output>, Failure> {
+        word.map(|path| self.create(Some(path), content)).transpose()
+    }
+
     fn standard_output(&mut self, content: Content) -> Result<Output, Failure> {
         if content == Content::Binary && atty::is(atty::Stream::Stdout) {
             return Err(Failure::new(STANDARD_OUTPUT, "is a terminal: name a file with -o, or lead it into a pipe"));

@@ -49,7 +49,7 @@ impl Input {
 
     /// How many octets it has, where it is a file that lies still.
     pub fn octets(&self) -> Option<u64> {
-        self.metadata.is_file().then(|| self.metadata.len())
+        self.metadata.is_file().then_some(self.metadata.len())
     }
 
     /// How many octets were taken from it.

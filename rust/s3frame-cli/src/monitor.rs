@@ -12,7 +12,6 @@ use crate::rows::{Row, Rows};
 use crate::tally::{Answer, Refused, Tally};
 use crate::words::MonitorWords;
 use s3frame::{FrameState, Place, SlotRead, FRAME_OCTETS, HEADER_OCTETS, SLOTS, SLOT_OCTETS};
-use std::path::Path;
 
 /// Everything that is told of the frames: lines, and a JSON document and a picture where they are asked for.
 struct Account {
@@ -47,28 +46,26 @@ pub fn run(words: &MonitorWords) -> Result<Outcome, Failure> {
     let layout = Layout::open(&mut files, &words.settings)?;
     let input = files.open(words.input.as_deref(), Content::Binary)?;
     let packets = files.create(words.output.as_deref(), Content::Binary)?;
-    let mut wanted = |word: &Option<_>, content| create_where_named(&mut files, word.as_deref(), content);
-    let headers = wanted(&words.headers, Content::Binary)?;
-    let json = wanted(&words.json, Content::Text)?.map(|output| Json::begin(output, &layout.opened)).transpose()?;
-    let picture = wanted(&words.svg, Content::Text)?.map(|output| (Rows::new(), output));
-    let report = files.report()?;
-    let mut account = Account { report, json, picture, frames: 0, total: Tally::default() };
-    let area = layout.packet_area();
-    let (frame, header) = (vec![0; FRAME_OCTETS], [0; HEADER_OCTETS]);
-    let mut monitor = Monitor { layout, input, packets, headers, frame, header, area };
+    let headers = files.create_named(words.headers.as_deref(), Content::Binary)?;
+    let mut account = Account::open(&mut files, words, &layout)?;
+    let mut monitor = Monitor::new(layout, input, packets, headers);
     let left_over = monitor.read_all(&mut account)?;
     let found = account.total.refused() > 0;
     let told = account.end(left_over)?;
     outputs::keep([Some(monitor.packets), monitor.headers].into_iter().flatten().chain(told))?;
-    Ok(Outcome { found, cut: Vec::new() }.left_over(monitor.input.name(), "frame", left_over))
-}
-
-/// Creates an output that is made only where a word names it.
-fn create_where_named(files: &mut Files, word: Option<&Path>, content: Content) -> Result<Option<Output>, Failure> {
-    word.map(|path| files.create(Some(path), content)).transpose()
+    Ok(Outcome::new(found).left_over(monitor.input.name(), "frame", left_over))
 }
 
 impl Account {
+    /// An account of no frame yet. It takes the last of the run's files.
+    fn open(files: &mut Files, words: &MonitorWords, layout: &Layout) -> Result<Account, Failure> {
+        let json = files.create_named(words.json.as_deref(), Content::Text)?;
+        let json = json.map(|output| Json::begin(output, &layout.opened)).transpose()?;
+        let picture = files.create_named(words.svg.as_deref(), Content::Text)?.map(|output| (Rows::new(), output));
+        let report = files.report()?;
+        Ok(Account { report, json, picture, frames: 0, total: Tally::default() })
+    }
+
     /// Tells of a frame.
     fn frame(&mut self, found: &Found, progress: &Progress) -> Result<(), Failure> {
         self.frames += 1;
@@ -100,6 +97,11 @@ impl Account {
 }
 
 impl Monitor {
+    fn new(layout: Layout, input: Input, packets: Output, headers: Option<Output>) -> Monitor {
+        let (frame, header, area) = (vec![0; FRAME_OCTETS], [0; HEADER_OCTETS], layout.packet_area());
+        Monitor { layout, input, packets, headers, frame, header, area }
+    }
+
     /// Reads frames until the input ends, and says how many octets are left over behind the last whole one.
     fn read_all(&mut self, account: &mut Account) -> Result<usize, Failure> {
         let progress = Progress::new(self.input.octets());

@@ -75,16 +75,20 @@ pub fn of_frames(rows: &Rows) -> String {
     let height = count * (600 / count).clamp(4, 24);
     svg(2 * LINE + height.max(60) + SLOT_AXIS + EDGE, |area| {
         let (head, body) = area.split_vertically(2 * LINE);
-        let each = match rows.each() {
-            1 => String::new(),
-            each => format!("; each row the worst of {each} frames"),
-        };
-        title(&head, &format!("{} frames read, slots by answer{each}", rows.frames()))?;
+        title(&head, &heading(rows))?;
         for (place, (_, name, colour)) in (0..).zip(ANSWERS) {
             key(&head, (FRAME_AXIS as i32 + 190 * place, LINE as i32 + 6), colour.filled(), name)?;
         }
         chart_frames(&body, rows)
     })
+}
+
+fn heading(rows: &Rows) -> String {
+    let each = match rows.each() {
+        1 => String::new(),
+        each => format!("; each row the worst of {each} frames"),
+    };
+    format!("Slots of frames 1 to {}, by answer{each}", rows.frames())
 }
 
 fn chart_frames(area: &Area, rows: &Rows) -> Drawn {

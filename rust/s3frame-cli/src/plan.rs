@@ -19,7 +19,7 @@ pub struct Run {
 pub fn run(words: &PlanWords) -> Result<Outcome, Failure> {
     let mut files = Files::default();
     let plan = read_plan(&mut files, &words.plan)?;
-    let picture = words.svg.as_deref().map(|path| files.create(Some(path), Content::Text)).transpose()?;
+    let picture = files.create_named(words.svg.as_deref(), Content::Text)?;
     let mut report = files.report()?;
     let places = places(&plan);
     list(&places, &mut report)?;
@@ -27,7 +27,7 @@ pub fn run(words: &PlanWords) -> Result<Outcome, Failure> {
         output.write(picture::of_plan(&runs(&places)).as_bytes())?;
         outputs::keep([output])?;
     }
-    Ok(Outcome::default())
+    Ok(Outcome::new(false))
 }
 
 fn runs(places: &[Place]) -> Vec<Run> {
