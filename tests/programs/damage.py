@@ -64,7 +64,8 @@ def report():
     equal("the refused slots have lines", [line for line in lines if "refused" in line],
           ["frame 1 slot 2 refused 8 parity lost 23", "frame 1 slot 5 refused 10 stuff lost 23",
            "frame 2 slot 3 refused 9 BCH lost 23", "frame 2 slot 4 refused 9 BCH lost 23"])
-    equal("all frames", lines[-1], "frames 2 accepted 184 dummy 52 parity 1 BCH 2 stuff 1 planned 4292 written 4200 lost 92 null 0")
+    equal("all frames", lines[-1],
+          "frames 2 accepted 184 dummy 52 parity 1 BCH 2 stuff 1 planned 4292 written 4200 lost 92 null 0")
     same_in_json(lines)
     texts, found = cells()
     equal("cells of the picture", found, Counter({"accepted": 184, "dummy": 52, "refused 8 parity": 1, "refused 9 BCH": 2,

@@ -1,7 +1,5 @@
 """`s3frame compare` on lists of packets."""
-from common import PACKET, check, equal, put, refused, run, samples, well
-
-BETWEEN = "between them, packets counted from 0:"
+from common import PACKET, equal, put, refused, run, samples, well
 
 
 def compared(sent, received, status, told=""):
@@ -18,6 +16,10 @@ def agree(front, end, *rest):
     return [f"agree from the front: {front} packets", f"agree from the end: {end} packets", *rest]
 
 
+def differ(front, end, sent, received, *runs):
+    return agree(front, end, "between them, packets counted from 0:", *runs, f"only in SENT {sent}, only in RECEIVED {received}")
+
+
 def part(packets, first, last):
     return packets[first * PACKET:last * PACKET]
 
@@ -26,21 +28,21 @@ def runs():
     packets, others = samples(200), samples(50, 9)
     equal("equal lists", compared(packets, packets, 0), agree(200, 0, "the lists are equal"))
     equal("a loss", compared(packets, part(packets, 0, 23) + part(packets, 46, 200), 1),
-          agree(23, 154, BETWEEN, "only in SENT: 23 packets, 23 to 45; RECEIVED goes on at 23", "only in SENT 23, only in RECEIVED 0"))
+          differ(23, 154, 23, 0, "only in SENT: 23 packets, 23 to 45; RECEIVED goes on at 23"))
     equal("a loss at the end", compared(packets, part(packets, 0, 190), 1),
-          agree(190, 0, BETWEEN, "only in SENT: 10 packets, 190 to 199; RECEIVED has ended", "only in SENT 10, only in RECEIVED 0"))
+          differ(190, 0, 10, 0, "only in SENT: 10 packets, 190 to 199; RECEIVED has ended"))
     equal("an insertion", compared(packets, part(packets, 0, 60) + others + part(packets, 60, 200), 1),
-          agree(60, 140, BETWEEN, "only in RECEIVED: 50 packets, 60 to 109; SENT goes on at 60", "only in SENT 0, only in RECEIVED 50"))
+          differ(60, 140, 0, 50, "only in RECEIVED: 50 packets, 60 to 109; SENT goes on at 60"))
     changed = part(packets, 0, 10) + part(packets, 20, 100) + part(others, 0, 5) + part(packets, 110, 200)
     equal("losses and a change", compared(packets, changed, 1),
-          agree(10, 90, BETWEEN, "only in SENT: 10 packets, 10 to 19; RECEIVED goes on at 10",
-                "only in SENT: 10 packets, 100 to 109; RECEIVED goes on at 90",
-                "only in RECEIVED: 5 packets, 90 to 94; SENT goes on at 110", "only in SENT 20, only in RECEIVED 5"))
+          differ(10, 90, 20, 5, "only in SENT: 10 packets, 10 to 19; RECEIVED goes on at 10",
+                 "only in SENT: 10 packets, 100 to 109; RECEIVED goes on at 90",
+                 "only in RECEIVED: 5 packets, 90 to 94; SENT goes on at 110"))
     equal("nothing received", compared(packets, b"", 1),
-          agree(0, 0, BETWEEN, "only in SENT: 200 packets, 0 to 199; RECEIVED has ended", "only in SENT 200, only in RECEIVED 0"))
+          differ(0, 0, 200, 0, "only in SENT: 200 packets, 0 to 199; RECEIVED has ended"))
     packet = part(packets, 0, 1)
     equal("one of equal packets is lost", compared(packet * 5, packet * 4, 1),
-          agree(4, 0, BETWEEN, "only in SENT: 1 packet, 4; RECEIVED has ended", "only in SENT 1, only in RECEIVED 0"))
+          differ(4, 0, 1, 0, "only in SENT: 1 packet, 4; RECEIVED has ended"))
 
 
 def cut_and_unsynced():
@@ -63,10 +65,9 @@ def long_lists():
     # Where the search is cut short it has not found the one packet that can be in both.
     cut = any("the search ended" in line for line in lines)
     equal("a turned list", lines[-1], "only in SENT {0}, only in RECEIVED {0}".format(20000 if cut else 19999))
-    lines = compared(mixed, bytes(octet ^ 1 for octet in mixed), 1)
-    check(f"nothing in common: {lines}", lines[2:] == [BETWEEN, "only in SENT: 20000 packets, 0 to 19999; RECEIVED goes on at 0",
-                                                       "only in RECEIVED: 20000 packets, 0 to 19999; SENT has ended",
-                                                       "only in SENT 20000, only in RECEIVED 20000"])
+    equal("nothing in common", compared(mixed, bytes(octet ^ 1 for octet in mixed), 1),
+          differ(0, 0, 20000, 20000, "only in SENT: 20000 packets, 0 to 19999; RECEIVED goes on at 0",
+                 "only in RECEIVED: 20000 packets, 0 to 19999; SENT has ended"))
 
 
 def test():

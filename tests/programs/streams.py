@@ -4,8 +4,8 @@ import os
 import stat
 import subprocess
 
-from common import (COMMAND, EIGHT, FEW, FRAME, HEADER, MASK, NULL, PACKET, REFERENCE, SETTINGS, SLOT, START, WORKED, check, counts,
-                    equal, frames_of, got, put, refused, run, samples, well)
+from common import (COMMAND, EIGHT, FEW, FRAME, HEADER, MASK, NULL, PACKET, REFERENCE, SETTINGS, SLOT, START, WORKED, check,
+                    counts, equal, frames_of, got, put, refused, run, samples, well)
 
 
 def coded(plan, packets, headers=None):
@@ -95,7 +95,8 @@ def cut_packets():
              told=f"s3frame code: cut: ends inside a packet: {left} octets left over\n")
         equal(f"{what}: what came before is kept", got("out"), wanted)
     put("cut", packets[:187])
-    refused("part of a packet", ["code", *SETTINGS, "cut", "-o", "out"], "^s3frame code: cut: has no whole packet: .* 187 octets$")
+    refused("part of a packet", ["code", *SETTINGS, "cut", "-o", "out"],
+            "^s3frame code: cut: has no whole packet: it ends after 187 octets$")
     refused("no packets", ["code", *SETTINGS, "-o", "out"], "^s3frame code: standard input: has no packets$")
     put("cut", packets[:2000 * PACKET] + b"\0" + packets[2000 * PACKET + 1:])
     refused("a packet without sync", ["code", *SETTINGS, "cut", "-o", "out"],
@@ -115,8 +116,8 @@ def cut_frames():
     put("cut", frames[:SLOT])
     outputs = ("out", "out.json", "out.svg")
     words = ["-o", "out", "--json", "out.json", "--svg", "out.svg"]
-    refused("part of a frame", ["monitor", *SETTINGS, "cut", *words], "^s3frame monitor: cut: has no whole frame: .* 5610 octets$",
-            outputs=outputs)
+    refused("part of a frame", ["monitor", *SETTINGS, "cut", *words],
+            "^s3frame monitor: cut: has no whole frame: it ends after 5610 octets$", outputs=outputs)
     refused("no frames", ["monitor", *SETTINGS, *words], "^s3frame monitor: standard input: has no frames$", outputs=outputs)
 
 

@@ -14,7 +14,8 @@ def settings(job, given):
     def with_settings(plan, mask, start):
         return [job, "--plan", plan, "--mask", mask, "--start", start, given, "-o", "out"]
 
-    for what, plan, why in [("a plan of 116 slots", "4 7 111\n2 3 5\n", "its groups break a rule"), ("no plan", "", "there are no lines"),
+    for what, plan, why in [("a plan of 116 slots", "4 7 111\n2 3 5\n", "its groups break a rule"),
+                            ("no plan", "", "there are no lines"),
                             ("a long plan", WORKED * 20, "the text has more than 128 octets")]:
         put("wrong", plan)
         refused(what, with_settings("wrong", MASK, START), f"^s3frame {job}: wrong: refused 1 plan: {why}")
@@ -40,34 +41,46 @@ def words_and_files(job, given):
     refused("missing headers", [*good, "-o", "out", "--headers", "none/headers"], f"^s3frame {job}: none/headers: No such file")
 
 
-def one_file_twice():
+def over_files():
+    """No output may be an input, by whatever name, or another output."""
     os.symlink("packets", "link")
     os.link("packets", "hard")
-    packets = got("packets")
-    for name in ("packets", "./packets", "link", "hard"):
-        refused(f"frames over their packets, as {name}", ["code", *SETTINGS, "packets", "-o", name], f"^s3frame code: {name}: is the same file")
-    refused("frames over the plan", ["code", *SETTINGS, "packets", "-o", "plan"], "^s3frame code: plan: is the same file as plan")
-    refused("frames over headers", ["code", *SETTINGS, "--headers", "frames", "packets", "-o", "frames"], "^s3frame code: frames: is the same")
-    refused("a picture over the plan", ["plan", "plan", "--svg", "plan"], "^s3frame plan: plan: is the same file as plan")
-    monitor = ["monitor", *SETTINGS, "frames"]
-    refused("packets over their frames", [*monitor, "-o", "frames"], "^s3frame monitor: frames: is the same file as frames")
-    refused("two outputs that are there", [*monitor, "-o", "out", "--json", "./out"], "^s3frame monitor: ./out: is the same file as out")
-    refused("two outputs that are not there", [*monitor, "-o", "new", "--svg", "./new"], "^s3frame monitor: ./new: is the same file as new")
-    refused("two outputs on standard output", [*monitor, "--json", "-"], "^s3frame monitor: standard output: cannot take two outputs")
-    refused("standard input twice", ["compare", "-", "-"], "^s3frame compare: standard input: cannot be read twice")
-    for name, words in (("standard output", []), ("packets", ["-o", "packets"])):
-        with open("packets", "rb") as given, open("packets", "ab") as out:
-            result = subprocess.run([COMMAND, "code", *SETTINGS, *words], stdin=given, stdout=out, stderr=subprocess.PIPE, text=True)
-        check(f"frames over standard input, as {name}: {result.stderr}",
-              result.returncode == 2 and result.stderr.startswith(f"s3frame code: {name}: is the same file as standard input"))
-    equal("the packets are as they were", got("packets"), packets)
+    code, monitor = ["code", *SETTINGS, "packets", "-o"], ["monitor", *SETTINGS, "frames", "-o"]
+    for what, words, name, other in [
+        ("frames over their packets", [*code, "packets"], "packets", "packets"),
+        ("frames over their packets by a path", [*code, "./packets"], "./packets", "packets"),
+        ("frames over their packets by a link", [*code, "link"], "link", "packets"),
+        ("frames over their packets by a hard link", [*code, "hard"], "hard", "packets"),
+        ("frames over the plan", [*code, "plan"], "plan", "plan"),
+        ("frames over headers", [*code, "frames", "--headers", "frames"], "frames", "frames"),
+        ("a picture over the plan", ["plan", "plan", "--svg", "plan"], "plan", "plan"),
+        ("packets over their frames", [*monitor, "frames"], "frames", "frames"),
+        ("two outputs that are there", [*monitor, "out", "--json", "./out"], "./out", "out"),
+        ("two outputs that are not there", [*monitor, "new", "--svg", "./new"], "./new", "new"),
+    ]:
+        refused(what, words, f"^s3frame {words[0]}: {name}: is the same file as {other}, and would be written over it$")
     os.remove("link")
     os.remove("hard")
 
 
+def over_streams():
+    """The same for standard input and standard output, each of which is taken once."""
+    refused("two outputs on standard output", ["monitor", *SETTINGS, "frames", "--json", "-"],
+            "^s3frame monitor: standard output: cannot take two outputs")
+    refused("standard input twice", ["compare", "-", "-"], "^s3frame compare: standard input: cannot be read twice")
+    packets = got("packets")
+    for name, words in (("standard output", []), ("packets", ["-o", "packets"])):
+        with open("packets", "rb") as given, open("packets", "ab") as out:
+            result = subprocess.run([COMMAND, "code", *SETTINGS, *words], stdin=given, stdout=out, stderr=subprocess.PIPE, text=True)
+        check(f"frames over standard input, as {name}: {result.stderr}", result.returncode == 2
+              and result.stderr.startswith(f"s3frame code: {name}: is the same file as standard input"))
+    equal("the packets are as they were", got("packets"), packets)
+
+
 def full_devices():
     """A device that takes nothing: status 2, for what is written and for the report."""
-    for words in (["code", *SETTINGS, "packets", "-o", "/dev/full"], ["monitor", *SETTINGS, "frames", "-o", "out", "--json", "/dev/full"]):
+    for words in (["code", *SETTINGS, "packets", "-o", "/dev/full"],
+                  ["monitor", *SETTINGS, "frames", "-o", "out", "--json", "/dev/full"]):
         status, _, told = run(*words)
         check(f"a full device: {told}", status == 2 and f"s3frame {words[0]}: /dev/full: No space left" in told)
     with open("/dev/full", "wb") as full:
@@ -92,12 +105,14 @@ def names_and_permissions():
 def terminals():
     """Octets do not go to a terminal, or come from one."""
     ours, theirs = pty.openpty()
-    for what, streams, line in [("output to a terminal", {"stdin": subprocess.DEVNULL, "stdout": theirs}, "standard output: is a terminal: .*-o"),
-                                ("input from a terminal", {"stdin": theirs, "stdout": subprocess.PIPE}, "standard input: is a terminal: name a file")]:
-        for job, given in (("code", "packets"), ("monitor", "frames")):
-            words = [COMMAND, job, *SETTINGS, *([given] if streams["stdout"] == theirs else [])]
-            result = subprocess.run(words, stderr=subprocess.PIPE, text=True, timeout=60, **streams)
-            check(f"{job}, {what}: {result.stderr}", result.returncode == 2 and re.match(f"s3frame {job}: {line}", result.stderr))
+    for job, given in (("code", "packets"), ("monitor", "frames")):
+        for words, streams, line in [
+            ([given], {"stdout": theirs}, "standard output: is a terminal: name a file with -o"),
+            ([], {"stdin": theirs, "stdout": subprocess.PIPE}, "standard input: is a terminal: name a file"),
+        ]:
+            result = subprocess.run([COMMAND, job, *SETTINGS, *words], stderr=subprocess.PIPE, text=True, timeout=60, **streams)
+            check(f"{job} at a terminal: {result.stderr}",
+                  result.returncode == 2 and result.stderr.startswith(f"s3frame {job}: {line}"))
     os.close(theirs)
     os.close(ours)
 
@@ -122,7 +137,8 @@ def interrupted(number):
 
 def closed_pipe():
     """A frame is longer than a pipe holds, so that its writer sees the other end close."""
-    with subprocess.Popen([COMMAND, "code", *SETTINGS, "packets"], stdout=subprocess.PIPE, stderr=subprocess.PIPE, text=True) as code:
+    words = [COMMAND, "code", *SETTINGS, "packets"]
+    with subprocess.Popen(words, stdout=subprocess.PIPE, stderr=subprocess.PIPE, text=True) as code:
         code.stdout.close()
         told = code.stderr.read()
     check(f"a pipe that closes: {told}", code.returncode == 2 and told.startswith("s3frame code: standard output: Broken pipe"))
@@ -133,7 +149,8 @@ def help_pages():
     check(f"the version: {version}", re.fullmatch(r"s3frame \d+\.\d+\.\d+\n", version))
     for words in ([], ["plan"], ["code"], ["monitor"], ["compare"]):
         page = well(f"help of {words}", *words, "--help")
-        check(f"help of {words} tells use, status and an example", all(part in page for part in ("Usage: s3frame", "EXIT STATUS", "EXAMPLE")))
+        check(f"help of {words}: use, status and an example",
+              all(part in page for part in ("Usage: s3frame", "EXIT STATUS", "EXAMPLE")))
     refused("no words", [], "Usage: s3frame")
 
 
@@ -144,7 +161,8 @@ def test():
     for job, given in (("code", "packets"), ("monitor", "frames")):
         settings(job, given)
         words_and_files(job, given)
-    one_file_twice()
+    over_files()
+    over_streams()
     full_devices()
     names_and_permissions()
     terminals()

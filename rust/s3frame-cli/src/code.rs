@@ -1,15 +1,25 @@
 //! `s3frame code`: packets into frames.
 use crate::failure::{Failure, Outcome};
 use crate::files::{Content, Files};
-use crate::frames::{fill_null, Layout};
+use crate::frames::Layout;
 use crate::inputs::Input;
 use crate::outputs::{self, Output};
+use crate::packets::{fill_null, SYNC};
 use crate::progress::Progress;
 use crate::words::CodeWords;
 use s3frame::{FrameState, Place, Refusal, HEADER_OCTETS, PACKET_OCTETS, SLOT_OCTETS};
 
-const SYNC: u8 = 0x47;
 const DUMMY: [u8; SLOT_OCTETS] = [0; SLOT_OCTETS];
+
+/// What was made of the packets: frames, packets of the input in them, null packets behind these; and the octets that were
+/// left over.
+#[derive(Default)]
+struct Counts {
+    frames: u64,
+    packets: u64,
+    nulls: u64,
+    left_over: usize,
+}
 
 /// Frames in the making: the files, the areas that every slot uses again, and what was counted.
 struct Coder {
@@ -20,10 +30,7 @@ struct Coder {
     header: [u8; HEADER_OCTETS],
     area: Vec<u8>,
     coded: [u8; SLOT_OCTETS],
-    frames: u64,
-    packets: u64,
-    nulls: u64,
-    left_over: usize,
+    counts: Counts,
 }
 
 /// Codes all packets of the input.
@@ -36,28 +43,28 @@ pub fn run(words: &CodeWords) -> Result<Outcome, Failure> {
     let mut report = files.report()?;
     let mut coder = Coder::new(layout, input, headers, output);
     coder.code_all()?;
-    report.line(format_args!("frames {} packets {} null {}", coder.frames, coder.packets, coder.nulls))?;
+    let Counts { frames, packets, nulls, left_over } = coder.counts;
+    report.line(format_args!("frames {frames} packets {packets} null {nulls}"))?;
     outputs::keep([coder.output])?;
-    Ok(Outcome::new(false).left_over(coder.input.name(), "packet", coder.left_over))
+    Ok(Outcome::new(false).left_over(coder.input.name(), "packet", left_over))
 }
 
 impl Coder {
     fn new(layout: Layout, input: Input, headers: Option<Input>, output: Output) -> Coder {
         let area = layout.packet_area();
-        let (header, coded) = ([0; HEADER_OCTETS], DUMMY);
-        let (frames, packets, nulls, left_over) = (0, 0, 0, 0);
-        Coder { layout, input, headers, output, header, area, coded, frames, packets, nulls, left_over }
+        let (header, coded, counts) = ([0; HEADER_OCTETS], DUMMY, Counts::default());
+        Coder { layout, input, headers, output, header, area, coded, counts }
     }
 
     /// Makes frames until the packets end, and looks at what only the end shows.
     fn code_all(&mut self) -> Result<(), Failure> {
         let progress = Progress::new(self.input.octets());
         while self.code_frame()? {
-            self.frames += 1;
+            self.counts.frames += 1;
             progress.at(self.input.taken());
         }
-        if self.frames == 0 {
-            return Err(Failure::without(self.input.name(), "packet", self.left_over));
+        if self.counts.frames == 0 {
+            return Err(Failure::without(self.input.name(), "packet", self.counts.left_over));
         }
         if let Some(headers) = &mut self.headers {
             if headers.fill(&mut [0])? > 0 {
@@ -83,8 +90,8 @@ impl Coder {
             }
             self.take_header()?;
             state = self.code_slot(state, &place)?;
-            self.packets += packets as u64;
-            self.nulls += (place.rate.packets() - packets) as u64;
+            self.counts.packets += packets as u64;
+            self.counts.nulls += (place.rate.packets() - packets) as u64;
         }
         self.output.flush()?;
         Ok(true)
@@ -95,7 +102,7 @@ impl Coder {
         let area = &mut self.area[..place.rate.packet_octets()];
         let octets = self.input.fill(area)?;
         let whole = octets / PACKET_OCTETS;
-        self.left_over += octets % PACKET_OCTETS;
+        self.counts.left_over += octets % PACKET_OCTETS;
         fill_null(&mut area[PACKET_OCTETS * whole..]);
         Ok(whole)
     }
@@ -124,7 +131,7 @@ impl Coder {
         let first = packets.chunks_exact(PACKET_OCTETS).position(|packet| packet[0] != SYNC);
         match first {
             Some(at) if refusal == Refusal::Sync => {
-                let packet = self.packets + at as u64;
+                let packet = self.counts.packets + at as u64;
                 let octet = packet * PACKET_OCTETS as u64;
                 let why = format!("packet {packet}, counted from 0, at octet {octet}, does not begin 0x47");
                 Failure::refused(self.input.name(), refusal, why)

@@ -2,6 +2,7 @@
 use crate::failure::{Failure, Outcome};
 use crate::files::{Content, Files};
 use crate::inputs::Input;
+use crate::packets::SYNC;
 use crate::progress::Progress;
 use crate::report::Report;
 use crate::words::CompareWords;
@@ -54,16 +55,16 @@ impl List {
             return Ok(None);
         }
         self.packets += 1;
-        self.unsynced += usize::from(packet[0] != 0x47);
+        self.unsynced += usize::from(packet[0] != SYNC);
         Ok(Some(packet))
     }
 
     /// The digests of a packet that was read, if any, and of all that follow.
-    fn digests(&mut self, first: Option<Packet>, progress: &Progress) -> Result<Vec<Digest>, Failure> {
+    fn digests(&mut self, first: Option<Packet>, read: impl Fn(u64)) -> Result<Vec<Digest>, Failure> {
         let mut digests: Vec<Digest> = first.iter().map(digest).collect();
         while let Some(packet) = self.next()? {
             digests.push(digest(&packet));
-            progress.at(self.input.taken());
+            read(self.input.taken());
         }
         Ok(digests)
     }
@@ -111,17 +112,17 @@ pub fn run(words: &CompareWords) -> Result<Outcome, Failure> {
 
 /// Reads both lists: how many packets agree from the front, and the digests of the others.
 fn read(sent: &mut List, received: &mut List) -> Result<(usize, [Vec<Digest>; 2]), Failure> {
-    let progress = Progress::new(sent.input.octets());
-    let mut front = 0;
-    loop {
-        let two = (sent.next()?, received.next()?);
-        progress.at(sent.input.taken());
-        if two.0.is_none() || two.0 != two.1 {
-            let rest = sent.digests(two.0, &progress)?;
-            return Ok((front, [rest, received.digests(two.1, &Progress::new(received.input.octets()))?]));
-        }
+    let octets = sent.input.octets().zip(received.input.octets());
+    let progress = Progress::new(octets.map(|(one, other)| one + other));
+    let (mut front, mut two) = (0, (sent.next()?, received.next()?));
+    while two.0.is_some() && two.0 == two.1 {
         front += 1;
+        progress.at(sent.input.taken() + received.input.taken());
+        two = (sent.next()?, received.next()?);
     }
+    let of_sent = sent.digests(two.0, |octets| progress.at(octets + received.input.taken()))?;
+    let of_received = received.digests(two.1, |octets| progress.at(sent.input.taken() + octets))?;
+    Ok((front, [of_sent, of_received]))
 }
 
 /// Compares what follows so many packets that agree.

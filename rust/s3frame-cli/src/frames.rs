@@ -3,7 +3,7 @@ use crate::failure::Failure;
 use crate::files::{Content, Files};
 use crate::plan_text::{octets_of, MOST_OCTETS};
 use crate::words::SettingWords;
-use s3frame::{FrameState, Place, Plan, Refusal, SlotSettings, PACKET_OCTETS, SLOTS};
+use s3frame::{FrameState, Place, Plan, Refusal, SlotSettings, SLOTS};
 use std::path::Path;
 
 /// Reads a plan's file. One octet more than a text may have is asked for, so that a longer one is seen to be so.
@@ -56,24 +56,4 @@ impl Layout {
     pub fn packet_area(&self) -> Vec<u8> {
         vec![0; self.places.iter().map(|place| place.rate.packet_octets()).max().unwrap_or(0)]
     }
-}
-
-/// A packet that carries nothing (ISO/IEC 13818-1): PID 0x1FFF, payload alone, stuffed with ones.
-const NULL_PACKET: [u8; PACKET_OCTETS] = {
-    let mut packet = [0xFF; PACKET_OCTETS];
-    packet[0] = 0x47;
-    packet[1] = 0x1F;
-    packet[3] = 0x10;
-    packet
-};
-
-/// Fills an area with null packets.
-pub fn fill_null(packets: &mut [u8]) {
-    packets.chunks_exact_mut(PACKET_OCTETS).for_each(|packet| packet.copy_from_slice(&NULL_PACKET));
-}
-
-/// How many of these packets have the PID of null packets.
-pub fn count_null(packets: &[u8]) -> usize {
-    let null = |packet: &&[u8]| packet[1] & 0x1F == 0x1F && packet[2] == 0xFF;
-    packets.chunks_exact(PACKET_OCTETS).filter(null).count()
 }

@@ -9,6 +9,7 @@ mod interrupt;
 mod json;
 mod monitor;
 mod outputs;
+mod packets;
 mod picture;
 mod plan;
 mod plan_text;

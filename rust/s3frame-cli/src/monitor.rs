@@ -1,10 +1,11 @@
 //! `s3frame monitor`: frames into packets, and a report of every slot.
 use crate::failure::{Failure, Outcome};
 use crate::files::{Content, Files};
-use crate::frames::{count_null, Layout};
+use crate::frames::Layout;
 use crate::inputs::Input;
 use crate::json::Json;
 use crate::outputs::{self, Output};
+use crate::packets::count_null;
 use crate::picture;
 use crate::progress::Progress;
 use crate::report::Report;
