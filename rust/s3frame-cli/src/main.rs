@@ -4,6 +4,7 @@ mod compare;
 mod failure;
 mod files;
 mod frames;
+mod gaps;
 mod inputs;
 mod interrupt;
 mod json;
