@@ -2,11 +2,12 @@
 import os
 import pty
 import re
+import resource
 import signal
 import stat
 import subprocess
 
-from common import COMMAND, MASK, SETTINGS, START, WORKED, check, equal, frames_of, got, put, refused, run, samples, well
+from common import COMMAND, MASK, PACKET, SETTINGS, START, WORKED, check, equal, frames_of, got, put, refused, run, samples, well
 
 
 def settings(job, given):
@@ -117,22 +118,47 @@ def terminals():
     os.close(ours)
 
 
+def reading(number, action):
+    """A monitor that has read one frame and waits for more, under some action for a signal."""
+    words = [COMMAND, "monitor", *SETTINGS, "-o", "out", "--json", "out.json", "--svg", "out.svg"]
+    monitor = subprocess.Popen(words, stdin=subprocess.PIPE, stdout=subprocess.PIPE, preexec_fn=lambda: signal.signal(number, action))
+    monitor.stdin.write(got("frames"))
+    monitor.stdin.flush()
+    equal("the first frame is read", monitor.stdout.readline()[:17], b"frame 1 accepted ")
+    return monitor
+
+
 def interrupted(number):
     """A signal while the input is open: the run ends by it, and leaves only what was there before."""
     outputs = ["out", "out.json", "out.svg"]
     for name in outputs:
         put(name, "earlier")
     before = sorted(os.listdir("."))
-    words = [COMMAND, "monitor", *SETTINGS, "-o", "out", "--json", "out.json", "--svg", "out.svg"]
-    with subprocess.Popen(words, stdin=subprocess.PIPE, stdout=subprocess.PIPE) as monitor:
-        monitor.stdin.write(got("frames"))
-        monitor.stdin.flush()
-        equal("the first frame is read", monitor.stdout.readline()[:17], b"frame 1 accepted ")
+    with reading(number, signal.SIG_DFL) as monitor:
         equal("three files are in the making", len(os.listdir(".")), len(before) + 3)
         monitor.send_signal(number)
         equal("the run ends by the signal", monitor.wait(60), -number)
     equal("an interrupted run leaves nothing", sorted(os.listdir(".")), before)
     check("earlier outputs stay", all(got(name) == b"earlier" for name in outputs))
+
+
+def not_interrupted():
+    """A signal that the caller ignores, as nohup does, ends nothing."""
+    with reading(signal.SIGHUP, signal.SIG_IGN) as monitor:
+        monitor.send_signal(signal.SIGHUP)
+        monitor.stdin.close()
+        equal("an ignored signal", monitor.wait(60), 0)
+    equal("the packets are there", got("out")[:40 * PACKET], got("packets"))
+
+
+def limited():
+    """A file that grows past its limit is a failure as any other."""
+    put("out", "earlier")
+    before = sorted(os.listdir("."))
+    limit = {"preexec_fn": lambda: resource.setrlimit(resource.RLIMIT_FSIZE, (10000, 10000))}
+    result = subprocess.run([COMMAND, "code", *SETTINGS, "packets", "-o", "out"], capture_output=True, text=True, **limit)
+    equal("a file too long", (result.returncode, result.stderr[:33]), (2, "s3frame code: out: File too large"))
+    check("nothing is left of it", sorted(os.listdir(".")) == before and got("out") == b"earlier")
 
 
 def closed_pipe():
@@ -166,7 +192,9 @@ def test():
     full_devices()
     names_and_permissions()
     terminals()
-    interrupted(signal.SIGTERM)
-    interrupted(signal.SIGINT)
+    for number in (signal.SIGTERM, signal.SIGINT, signal.SIGHUP):
+        interrupted(number)
+    not_interrupted()
+    limited()
     closed_pipe()
     help_pages()

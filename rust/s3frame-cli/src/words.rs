@@ -11,7 +11,7 @@ EXIT STATUS
   2  wrong use, a file that cannot be read or written, a refused plan or setting;
      no file is left
 
-A run that is interrupted (SIGINT, SIGTERM) ends by the signal, and leaves no file.";
+A run that is interrupted (SIGHUP, SIGINT, SIGTERM) ends by the signal, and leaves no file.";
 
 const PLAN_FORM: &str = "\
 PLAN
