@@ -14,16 +14,24 @@ type Drawn = Result<(), DrawingAreaErrorKind<std::io::Error>>;
 const FONT: (&str, u32) = ("sans-serif", 15);
 const TITLE: (&str, u32) = ("sans-serif", 20);
 
-/// Pixels: a slot's width, the room of the axes, and of the edges.
+// All lengths are pixels: a slot's width, the room of the axes and of the edges.
 const SLOT_WIDTH: u32 = 8;
 const FRAME_AXIS: u32 = 90;
 const SLOT_AXIS: u32 = 50;
 const EDGE: u32 = 20;
 const WIDTH: u32 = FRAME_AXIS + SLOTS as u32 * SLOT_WIDTH + EDGE;
-/// The height of title and legend's line.
+/// The height of the title, and of the answers' legend below it.
 const LINE: u32 = 34;
-/// The side of a coloured square in a legend.
+/// The side of a coloured square in a legend, and how far apart such squares stand: answers side by side, groups in lines.
 const KEY: i32 = 14;
+const ANSWER_KEYS: i32 = 190;
+const GROUP_KEYS: i32 = 24;
+/// The heights of rows of frames, which fill so much where that is between the two; and of a plan's strip.
+const ROWS: u32 = 600;
+const LOWEST_ROW: u32 = 4;
+const HIGHEST_ROW: u32 = 24;
+const LEAST_ROWS: u32 = 60;
+const STRIP: u32 = 80;
 
 /// How many labels an axis has at most: those of slots are tens.
 const SLOT_LABELS: usize = 13;
@@ -40,14 +48,14 @@ const ANSWERS: [(Answer, &str, RGBColor); 5] = [
 
 /// The colours of a plan's groups, in their order.
 const GROUPS: [RGBColor; 8] = [
-    RGBColor(0x00, 0x72, 0xB2),
+    RGBColor(0x0A, 0x4F, 0xA0),
     RGBColor(0xE6, 0x9F, 0x00),
-    RGBColor(0x00, 0x9E, 0x73),
-    RGBColor(0xCC, 0x79, 0xA7),
-    RGBColor(0x56, 0xB4, 0xE9),
-    RGBColor(0xA8, 0x3C, 0x00),
-    RGBColor(0x55, 0x55, 0x55),
-    RGBColor(0xB3, 0xA1, 0x00),
+    RGBColor(0x00, 0xB4, 0x87),
+    RGBColor(0xC0, 0x60, 0xA8),
+    RGBColor(0x93, 0xC4, 0xEC),
+    RGBColor(0x8A, 0x34, 0x00),
+    RGBColor(0x6A, 0x6A, 0x6A),
+    RGBColor(0x11, 0x11, 0x11),
 ];
 
 /// The text of a picture. Drawing into memory does not fail.
@@ -72,12 +80,12 @@ fn title(area: &Area, text: &str) -> Drawn {
 /// The slots of frames, coloured by answer: slots to the right, frames downward.
 pub fn of_frames(rows: &Rows) -> String {
     let count = rows.iter().count() as u32;
-    let height = count * (600 / count).clamp(4, 24);
-    svg(2 * LINE + height.max(60) + SLOT_AXIS + EDGE, |area| {
+    let height = count * (ROWS / count).clamp(LOWEST_ROW, HIGHEST_ROW);
+    svg(2 * LINE + height.max(LEAST_ROWS) + SLOT_AXIS + EDGE, |area| {
         let (head, body) = area.split_vertically(2 * LINE);
         title(&head, &heading(rows))?;
         for (place, (_, name, colour)) in (0..).zip(ANSWERS) {
-            key(&head, (FRAME_AXIS as i32 + 190 * place, LINE as i32 + 6), colour.filled(), name)?;
+            key(&head, (FRAME_AXIS as i32 + ANSWER_KEYS * place, LINE as i32 + 6), colour.filled(), name)?;
         }
         chart_frames(&body, rows)
     })
@@ -142,17 +150,16 @@ fn sides(first: usize, last: usize) -> (f64, f64) {
 
 /// The slots of a plan, data and dummies of each group in its colour.
 pub fn of_plan(runs: &[Run]) -> String {
-    let groups = runs.iter().map(|run| run.place.group).max().unwrap_or(0) as u32 + 1;
-    let strip = 80 + SLOT_AXIS;
-    svg(LINE + strip + 24 * groups + EDGE, |area| {
+    let down = |group: usize| GROUP_KEYS * group as i32 + 8;
+    let last = runs.iter().map(|run| run.place.group).max().unwrap_or(0);
+    svg(LINE + STRIP + SLOT_AXIS + down(last + 1) as u32 + EDGE, |area| {
         let (head, rest) = area.split_vertically(LINE);
-        let (body, legend) = rest.split_vertically(strip);
+        let (body, legend) = rest.split_vertically(STRIP + SLOT_AXIS);
         title(&head, "Slots of a frame, by the groups of the plan")?;
         chart_plan(&body, runs)?;
         runs.iter().try_for_each(|run| {
             let across = if run.place.data { 0 } else { WIDTH as i32 / 2 };
-            let down = 24 * run.place.group as i32 + 8;
-            key(&legend, (FRAME_AXIS as i32 + across, down), style(run), &meaning(run))
+            key(&legend, (FRAME_AXIS as i32 + across, down(run.place.group)), style(run), &meaning(run))
         })
     })
 }
