@@ -1,6 +1,7 @@
 """What the tests of the command share: counted checks, sample plans and packets, files, and runs."""
 import os
 import re
+import resource
 import subprocess
 
 ROOT = os.path.dirname(os.path.dirname(os.path.dirname(os.path.abspath(__file__))))
@@ -45,15 +46,20 @@ def got(name):
         return file.read()
 
 
-def run(*words, given=b""):
+def limit(kind, octets):
+    """For a run that may have no more octets of something, as memory."""
+    return {"preexec_fn": lambda: resource.setrlimit(kind, (octets, octets))}
+
+
+def run(*words, given=b"", **more):
     """Runs the command: its status, the octets on standard output, the text on standard error."""
-    result = subprocess.run([COMMAND, *words], input=given, capture_output=True)
+    result = subprocess.run([COMMAND, *words], input=given, capture_output=True, **more)
     return result.returncode, result.stdout, result.stderr.decode()
 
 
-def well(what, *words, status=0, told=""):
+def well(what, *words, status=0, told="", **more):
     """A run with this status that says just this on standard error; the text on standard output."""
-    found, out, error = run(*words)
+    found, out, error = run(*words, **more)
     equal(f"{what}: status", found, status)
     equal(f"{what}: standard error", error, told)
     return out.decode()

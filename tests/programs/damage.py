@@ -1,10 +1,12 @@
 """Slots that are refused, in the report, in JSON and in the picture."""
 import json
+import resource
 import subprocess
 import xml.etree.ElementTree as xml
 from collections import Counter
 
-from common import FEW, FRAME, PACKET, REFERENCE, SETTINGS, SLOT, WORKED, check, counts, equal, frames_of, got, put, samples, well
+from common import (FEW, FRAME, PACKET, REFERENCE, SETTINGS, SLOT, WORKED, check, counts, equal, frames_of, got, limit, put,
+                    samples, well)
 
 SVG = "{http://www.w3.org/2000/svg}"
 REPORTS = ["--json", "out.json", "--svg", "out.svg"]
@@ -84,12 +86,15 @@ def wrong_settings():
 
 
 def many_frames():
-    """More frames than the picture has rows: two frames a row, and the worse answer of the two."""
+    """More frames than the picture has rows: two frames a row, and the worse answer of the two. They take more octets than
+    the run may have as memory.
+    """
     frames = bytearray(frames_of(FEW, samples(240) * 201))
     for frame, slot in ((1, 1), (4, 2), (201, 24)):
         frames[(frame - 1) * FRAME + slot * SLOT - 1] ^= 1
     put("frames", bytes(frames))
-    well("many frames", "monitor", *SETTINGS, "frames", "-o", "back", *REPORTS, status=1)
+    memory = limit(resource.RLIMIT_AS, len(frames) // 4)
+    well("many frames", "monitor", *SETTINGS, "frames", "-o", "back", *REPORTS, status=1, **memory)
     texts, found = cells()
     equal("cells of many frames", found, Counter({"accepted": 101 * 24 - 3, "dummy": 101 * 96, "refused 8 parity": 3}))
     check(f"the axis tells frames: {texts}", {"20", "100", "200"} <= set(texts) and "each row the worst of 2 frames" in texts[0])

@@ -7,7 +7,8 @@ import signal
 import stat
 import subprocess
 
-from common import COMMAND, MASK, PACKET, SETTINGS, START, WORKED, check, equal, frames_of, got, put, refused, run, samples, well
+from common import (COMMAND, MASK, PACKET, SETTINGS, START, WORKED, check, equal, frames_of, got, limit, put, refused, run,
+                    samples, well)
 
 
 def settings(job, given):
@@ -155,9 +156,8 @@ def limited():
     """A file that grows past its limit is a failure as any other."""
     put("out", "earlier")
     before = sorted(os.listdir("."))
-    limit = {"preexec_fn": lambda: resource.setrlimit(resource.RLIMIT_FSIZE, (10000, 10000))}
-    result = subprocess.run([COMMAND, "code", *SETTINGS, "packets", "-o", "out"], capture_output=True, text=True, **limit)
-    equal("a file too long", (result.returncode, result.stderr[:33]), (2, "s3frame code: out: File too large"))
+    status, _, told = run("code", *SETTINGS, "packets", "-o", "out", **limit(resource.RLIMIT_FSIZE, 10000))
+    equal("a file too long", (status, told[:33]), (2, "s3frame code: out: File too large"))
     check("nothing is left of it", sorted(os.listdir(".")) == before and got("out") == b"earlier")
 
 
