@@ -5,7 +5,8 @@
 //!     reference bench COUNTS RATES  the work of the program test_bench: slots coded and read, frames coded and read, at
 //!                                   rates 1, 7 and 11 where none is named
 //!     reference stream PLAN MASK START PACKETS FRAMES [HEADERS]
-//!                                   the frames of a file of packets, as the program framer writes them
+//!                                   the frames of a file of packets, as `s3frame code` writes them
+//!     reference parity RATE         the slot on standard input, with its parity made anew, on standard output
 //!     reference quick COUNTS RATES  the same work by straight loops over one octet a bit, for the benchmark alone
 use reference::{bench, frames, stream, vectors};
 
@@ -16,6 +17,7 @@ fn main() {
         ["vectors"] => vectors::print(),
         ["frames"] => frames::print(),
         ["stream", ref files @ ..] => stream::write(files),
+        ["parity", rate] => stream::renew_parity(rate.parse().expect("a rate")),
         [way @ ("bench" | "quick"), coded, read, coded_frames, read_frames, ref rates @ ..] => {
             let [coded, read, coded_frames, read_frames] =
                 [coded, read, coded_frames, read_frames].map(|word| word.parse().expect("a count"));
@@ -23,6 +25,8 @@ fn main() {
             let rates = if rates.is_empty() { vec![1, 7, 11] } else { rates };
             bench::print(way == "quick", bench::Counts { coded, read, coded_frames, read_frames }, &rates)
         }
-        _ => panic!("reference vectors, frames, stream with files, or bench or quick with four counts and rates"),
+        _ => panic!(
+            "reference vectors, frames, stream with files, parity with a rate, or bench or quick with four counts and rates"
+        ),
     }
 }

@@ -1,8 +1,11 @@
-//! A file of packets as frames end to end, to compare with what the program framer writes.
+//! A file of packets as frames end to end, to compare with what `s3frame code` writes; and slots that it never writes.
 use crate::packets::{pack, packets_of};
 use crate::plan::{self, Group};
+use crate::slot::Code;
+use crate::vectors::with_parity_anew;
 use crate::{frame, tables};
 use std::fs;
+use std::io::{self, Read, Write};
 
 const PACKET: usize = 188;
 const HEADER: usize = 22;
@@ -59,7 +62,15 @@ fn frames(plan: &[Group], mask: u32, start: u32, packets: &[u8], headers: &[u8])
     all
 }
 
-/// Reads the files that framer reads, and writes the frames.
+/// Reads a slot of a rate, and writes it with the parity of its first bits, so that what is wrong with them shows.
+pub fn renew_parity(rate: usize) {
+    let mut slot = Vec::new();
+    io::stdin().read_to_end(&mut slot).expect("a slot");
+    let code = Code::new(tables::tables().swap_remove(rate - 1));
+    io::stdout().write_all(&with_parity_anew(&code, &slot)).expect("the slot is written");
+}
+
+/// Reads the files that `s3frame code` reads, and writes the frames.
 pub fn write(files: &[&str]) {
     let [plan, mask, start, packets, out] = files[..5] else { panic!("plan, mask, start, packets and frames") };
     let plan = groups(&fs::read_to_string(plan).expect("a plan"));

@@ -1,0 +1,59 @@
+//! What coding and reading frames share: the plan's places, their tables, and the state at slot 1.
+use crate::failure::Failure;
+use crate::files::{Content, Files};
+use crate::plan_text::{octets_of, MOST_OCTETS};
+use crate::words::SettingWords;
+use s3frame::{FrameState, Place, Plan, Refusal, SlotSettings, SLOTS};
+use std::path::Path;
+
+/// Reads a plan's file. One octet more than a text may have is asked for, so that a longer one is seen to be so.
+pub fn read_plan(files: &mut Files, word: &Path) -> Result<Plan, Failure> {
+    let mut input = files.open(Some(word), Content::Text)?;
+    let mut text = [0; MOST_OCTETS + 1];
+    let length = input.fill(&mut text)?;
+    let refused = |why: &str| Failure::refused(input.name(), Refusal::Plan, why);
+    let octets = octets_of(&text[..length]).map_err(|wrong| refused(&wrong))?;
+    Plan::of_octets(&octets).map_err(|_| refused("its groups break a rule that `s3frame plan --help` lists"))
+}
+
+/// The places of a plan's slots, slot 1 first.
+pub fn places(plan: &Plan) -> Vec<Place> {
+    let place = |slot| plan.place(slot).expect("an accepted plan has a place for each slot");
+    (1..=SLOTS as u32).map(place).collect()
+}
+
+/// How many packets the slots at these places carry.
+pub fn packets(places: &[Place]) -> usize {
+    places.iter().filter(|place| place.data).map(|place| place.rate.packets()).sum()
+}
+
+/// How every frame of a run is laid out. The first slot of a plan always carries data.
+pub struct Layout {
+    /// The state at slot 1.
+    pub opened: FrameState,
+    /// The slots, slot 1 first.
+    pub places: Vec<Place>,
+    tables: Vec<Vec<u16>>,
+}
+
+impl Layout {
+    /// The layout of a plan's file under mask and start.
+    pub fn open(files: &mut Files, words: &SettingWords) -> Result<Layout, Failure> {
+        let plan = read_plan(files, &words.plan)?;
+        let settings = SlotSettings { mask: words.mask.value, start: words.start.value };
+        let about = format!("mask {} and start {}", words.mask, words.start);
+        let opened = FrameState::open(plan, settings).map_err(|refusal| Failure::new(about, refusal))?;
+        let tables = plan.groups().map(|group| group.rate.published_table()).collect();
+        Ok(Layout { opened, places: places(&plan), tables })
+    }
+
+    /// The parity table of a place.
+    pub fn table(&self, place: &Place) -> &[u16] {
+        &self.tables[place.group]
+    }
+
+    /// An area for the packets of any slot.
+    pub fn packet_area(&self) -> Vec<u8> {
+        vec![0; self.places.iter().map(|place| place.rate.packet_octets()).max().unwrap_or(0)]
+    }
+}

@@ -1,0 +1,105 @@
+//! Files that are written, standard output among them. A file gets its name once it is whole.
+use crate::failure::Failure;
+use crate::interrupt;
+use std::ffi::OsString;
+use std::fs::{self, File};
+use std::io::{self, BufWriter, Write};
+use std::os::unix::io::AsFd;
+use std::path::{Path, PathBuf};
+use tempfile::TempDir;
+
+pub const STANDARD_OUTPUT: &str = "standard output";
+
+/// Enough for some ten slots at once.
+const BUFFER: usize = 1 << 16;
+
+/// A file under another name: in a folder beside its own place, so that it is made as any new file is, with the
+/// permissions that the umask leaves, and can be renamed.
+struct Unfinished {
+    folder: TempDir,
+    name: OsString,
+    place: PathBuf,
+}
+
+impl Unfinished {
+    /// Makes the file that gets its place later.
+    fn begin(place: PathBuf) -> io::Result<(Unfinished, File)> {
+        let name = place.file_name().ok_or(io::ErrorKind::InvalidInput)?.to_os_string();
+        let beside = fs::canonicalize(folder_of(&place))?;
+        let folder = interrupt::undisturbed(|unfinished| {
+            let folder = tempfile::Builder::new().prefix(".s3frame-").tempdir_in(beside)?;
+            unfinished.push(folder.path().to_path_buf());
+            io::Result::Ok(folder)
+        })?;
+        let file = File::create(folder.path().join(&name))?;
+        Ok((Unfinished { folder, name, place }, file))
+    }
+
+    /// Gives the file its place.
+    fn rename(&self) -> io::Result<()> {
+        fs::rename(self.folder.path().join(&self.name), &self.place)
+    }
+}
+
+/// The folder of a path; a bare name lies in the current one.
+pub fn folder_of(path: &Path) -> &Path {
+    match path.parent() {
+        Some(folder) if folder != Path::new("") => folder,
+        _ => Path::new("."),
+    }
+}
+
+/// Something that is written. Dropped before [`keep`], it leaves nothing behind.
+pub struct Output {
+    name: String,
+    writer: BufWriter<File>,
+    unfinished: Option<Unfinished>,
+}
+
+impl Output {
+    /// A file that gets its path once it is whole. A link is followed, so that it stays one. What is there and is no file,
+    /// as a device or a pipe, is written as it is.
+    pub fn create(path: &Path) -> Result<Output, Failure> {
+        let name = path.display().to_string();
+        let made = match fs::metadata(path) {
+            Ok(there) if there.is_file() => fs::canonicalize(path).and_then(Unfinished::begin),
+            Ok(_) => return Output::new(name, File::options().write(true).open(path), None),
+            Err(_) => Unfinished::begin(path.to_path_buf()),
+        };
+        match made {
+            Ok((unfinished, file)) => Output::new(name, Ok(file), Some(unfinished)),
+            Err(error) => Err(Failure::new(name, error)),
+        }
+    }
+
+    /// Standard output.
+    pub fn standard() -> Result<Output, Failure> {
+        Output::new(STANDARD_OUTPUT.to_string(), io::stdout().as_fd().try_clone_to_owned().map(File::from), None)
+    }
+
+    fn new(name: String, file: io::Result<File>, unfinished: Option<Unfinished>) -> Result<Output, Failure> {
+        let file = file.map_err(|error| Failure::new(&name, error))?;
+        Ok(Output { name, writer: BufWriter::with_capacity(BUFFER, file), unfinished })
+    }
+
+    pub fn write(&mut self, octets: &[u8]) -> Result<(), Failure> {
+        self.writer.write_all(octets).map_err(|error| Failure::new(&self.name, error))
+    }
+
+    /// Hands on what is buffered.
+    pub fn flush(&mut self) -> Result<(), Failure> {
+        self.writer.flush().map_err(|error| Failure::new(&self.name, error))
+    }
+}
+
+/// Gives all outputs of a run their names, none before all of them are whole.
+pub fn keep(outputs: impl IntoIterator<Item = Output>) -> Result<(), Failure> {
+    let mut outputs: Vec<Output> = outputs.into_iter().collect();
+    outputs.iter_mut().try_for_each(Output::flush)?;
+    interrupt::undisturbed(|_| {
+        outputs.iter().try_for_each(|output| match &output.unfinished {
+            Some(unfinished) => unfinished.rename().map_err(|error| Failure::new(&output.name, error)),
+            None => Ok(()),
+        })
+    })
+}

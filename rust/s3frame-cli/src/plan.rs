@@ -1,0 +1,54 @@
+//! `s3frame plan`: the runs of a plan's slots, as lines and as a picture.
+use crate::failure::{Failure, Outcome};
+use crate::files::{Content, Files};
+use crate::frames::{packets, places, read_plan};
+use crate::outputs;
+use crate::picture;
+use crate::report::Report;
+use crate::words::PlanWords;
+use s3frame::Place;
+
+/// Slots that follow each other at the same kind of place, numbered from 1.
+pub struct Run {
+    pub first: usize,
+    pub last: usize,
+    pub place: Place,
+}
+
+/// Lists a plan.
+pub fn run(words: &PlanWords) -> Result<Outcome, Failure> {
+    let mut files = Files::default();
+    let plan = read_plan(&mut files, &words.plan)?;
+    let picture = files.create_named(words.svg.as_deref(), Content::Text)?;
+    let mut report = files.report()?;
+    let places = places(&plan);
+    list(&places, &mut report)?;
+    if let Some(mut output) = picture {
+        output.write(picture::of_plan(&runs(&places)).as_bytes())?;
+        outputs::keep([output])?;
+    }
+    Ok(Outcome::new(false))
+}
+
+fn runs(places: &[Place]) -> Vec<Run> {
+    let mut runs: Vec<Run> = Vec::new();
+    for (place, slot) in places.iter().zip(1..) {
+        match runs.last_mut() {
+            Some(run) if run.place == *place => run.last = slot,
+            _ => runs.push(Run { first: slot, last: slot, place: *place }),
+        }
+    }
+    runs
+}
+
+fn list(places: &[Place], report: &mut Report) -> Result<(), Failure> {
+    report.line(format_args!("first last mod rate kind"))?;
+    for Run { first, last, place } in runs(places) {
+        let (modulation, rate) = (place.modulation.number(), place.rate.number());
+        let kind = if place.data { "data" } else { "dummy" };
+        report.line(format_args!("{first} {last} {modulation} {rate} {kind}"))?;
+    }
+    let data = places.iter().filter(|place| place.data).count();
+    report.line(format_args!("total {data} data {} dummy", places.len() - data))?;
+    report.line(format_args!("packets {}", packets(places)))
+}

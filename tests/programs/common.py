@@ -1,0 +1,92 @@
+"""What the tests of the command share: counted checks, sample plans and packets, files, and runs."""
+import os
+import re
+import resource
+import subprocess
+
+ROOT = os.path.dirname(os.path.dirname(os.path.dirname(os.path.abspath(__file__))))
+COMMAND = f"{ROOT}/target/command/release/s3frame"
+REFERENCE = f"{ROOT}/target/reference/release/reference"
+PLAN_LIST = f"{ROOT}/target/bin/plan_list"
+SLOT, FRAME, PACKET, HEADER = 5610, 673200, 188, 22
+NULL = bytes([0x47, 0x1F, 0xFF, 0x10]) + b"\xff" * 184
+MASK, START = "19088743", "12246029"
+SETTINGS = ["--plan", "plan", "--mask", MASK, "--start", START]
+WORKED = "4 7 115\n2 3 5\n"  # 92 slots of 23 packets and 2 of 15
+EIGHT = "5 11 20\n5 7 10\n4 7 30\n3 5 20\n3 1 15\n2 3 10\n1 9 10\n1 1 5\n"
+FEW = "1 1 120\n"  # 24 slots of 10 packets
+passed = failed = 0
+
+
+def check(what, holds):
+    global passed, failed
+    if holds:
+        passed += 1
+    else:
+        failed += 1
+        print(f"programs: FAILED: {what}")
+
+
+def equal(what, found, wanted):
+    """A check that shows what it found; long octets are not worth showing."""
+    check(what if isinstance(found, bytes) else f"{what}: {found!r}, not {wanted!r}", found == wanted)
+
+
+def samples(count, seed=1):
+    return subprocess.run([f"{ROOT}/tools/sample-packets", str(count), str(seed)], capture_output=True, check=True).stdout
+
+
+def put(name, octets):
+    with open(name, "wb") as file:
+        file.write(octets if isinstance(octets, bytes) else octets.encode())
+
+
+def got(name):
+    with open(name, "rb") as file:
+        return file.read()
+
+
+def limit(kind, octets):
+    """For a run that may have no more octets of something, as memory."""
+    return {"preexec_fn": lambda: resource.setrlimit(kind, (octets, octets))}
+
+
+def run(*words, given=b"", **more):
+    """Runs the command: its status, the octets on standard output, the text on standard error."""
+    result = subprocess.run([COMMAND, *words], input=given, capture_output=True, **more)
+    return result.returncode, result.stdout, result.stderr.decode()
+
+
+def well(what, *words, status=0, told="", **more):
+    """A run with this status that says just this on standard error; the text on standard output."""
+    found, out, error = run(*words, **more)
+    equal(f"{what}: status", found, status)
+    equal(f"{what}: standard error", error, told)
+    return out.decode()
+
+
+def refused(what, words, line, given=b"", outputs=("out",)):
+    """A run that ends with status 2 and a line that fits: outputs that were there before stay, and nothing else is left."""
+    for name in outputs:
+        put(name, "earlier")
+    before = sorted(os.listdir("."))
+    status, out, error = run(*words, given=given)
+    equal(f"{what}: status", status, 2)
+    check(f"{what}: a line that says so, not: {error}", re.search(line, error, re.MULTILINE) is not None)
+    equal(f"{what}: standard output", out.decode(), "")
+    equal(f"{what}: names that are left", sorted(os.listdir(".")), before)
+    check(f"{what}: an earlier output stays", all(got(name) == b"earlier" for name in outputs))
+
+
+def frames_of(plan, packets):
+    """The frames of packets, by the command."""
+    put("plan", plan)
+    status, frames, _ = run("code", *SETTINGS, given=packets)
+    equal("code of packets: status", status, 0)
+    return frames
+
+
+def counts(line):
+    """A report line's names and numbers."""
+    words = line.split(" ")
+    return dict(zip(words[::2], map(int, words[1::2])))

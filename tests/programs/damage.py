@@ -1,0 +1,106 @@
+"""Slots that are refused, in the report, in JSON and in the picture."""
+import json
+import resource
+import subprocess
+import xml.etree.ElementTree as xml
+from collections import Counter
+
+from common import (FEW, FRAME, PACKET, REFERENCE, SETTINGS, SLOT, WORKED, check, counts, equal, frames_of, got, limit, put,
+                    samples, well)
+
+SVG = "{http://www.w3.org/2000/svg}"
+REPORTS = ["--json", "out.json", "--svg", "out.svg"]
+
+
+def with_wrong_stuff(slot):
+    """A slot of rate 7 with a wrong stuff bit, the last of the 93 rows of 374 bits before the parity, and right parity."""
+    octets = bytearray(slot)
+    octets[(93 * 374 - 1) // 8] ^= 4
+    return subprocess.run([REFERENCE, "parity", "7"], input=octets, capture_output=True, check=True).stdout
+
+
+def damaged(frames):
+    """Frame 1: a wrong parity bit in slot 2, a wrong stuff bit in slot 5. Frame 2: slots 3 and 4 changed places, so that
+    their parity is right and their BCH bits are not.
+    """
+    octets = bytearray(frames)
+    octets[2 * SLOT - 1] ^= 1
+    octets[4 * SLOT:5 * SLOT] = with_wrong_stuff(octets[4 * SLOT:5 * SLOT])
+    third, fourth, fifth = (FRAME + k * SLOT for k in (2, 3, 4))
+    octets[third:fourth], octets[fourth:fifth] = octets[fourth:fifth], octets[third:fourth]
+    return bytes(octets)
+
+
+def same_in_json(lines):
+    """The document says what the lines say."""
+    document = json.loads(got("out.json"))
+    told = []
+    for frame in document["frames"]:
+        slots = frame.pop("refused")
+        told += [f"frame {frame['frame']} slot {slot['slot']} refused {slot['number']} {slot['word']} lost {slot['lost']}"
+                 for slot in slots]
+        told.append(" ".join(f"{name} {value}" for name, value in frame.items()))
+    told.append(" ".join(f"{name} {value}" for name, value in document["total"].items()))
+    equal("the lines that JSON makes", told, lines)
+    settings = {"plan": [{"modulation": 4, "rate": 7, "slots": 115}, {"modulation": 2, "rate": 3, "slots": 5}],
+                "mask": 19088743, "start": 12246029, "left_over": 0}
+    equal("plan and settings in JSON", {name: document[name] for name in settings}, settings)
+
+
+def cells():
+    """The picture's texts, and how many cells it has of each name in its legend, which stands behind the ground."""
+    picture = xml.fromstring(got("out.svg"))
+    fills = [cell.get("fill") for cell in picture.iter(f"{SVG}rect")]
+    texts = [text.text.strip() for text in picture.iter(f"{SVG}text")]
+    names = dict(zip(fills[1:6], texts[1:6]))
+    return texts, Counter(names.get(fill, fill) for fill in fills[6:])
+
+
+def report():
+    packets = samples(2 * 2146, 5)
+    put("damaged", damaged(frames_of(WORKED, packets)))
+    lines = well("monitor", "monitor", *SETTINGS, "damaged", "-o", "back", *REPORTS, status=1).splitlines()
+    slot, in_frame = 23 * PACKET, 2146 * PACKET
+    want = packets[:slot] + packets[2 * slot:4 * slot] + packets[5 * slot:in_frame + 2 * slot] + packets[in_frame + 4 * slot:]
+    equal("the packets of accepted slots alone come back", got("back"), want)
+    equal("the refused slots have lines", [line for line in lines if "refused" in line],
+          ["frame 1 slot 2 refused 8 parity lost 23", "frame 1 slot 5 refused 10 stuff lost 23",
+           "frame 2 slot 3 refused 9 BCH lost 23", "frame 2 slot 4 refused 9 BCH lost 23"])
+    equal("all frames", lines[-1],
+          "frames 2 accepted 184 dummy 52 parity 1 BCH 2 stuff 1 planned 4292 written 4200 lost 92 null 0")
+    same_in_json(lines)
+    texts, found = cells()
+    equal("cells of the picture", found, Counter({"accepted": 184, "dummy": 52, "refused 8 parity": 1, "refused 9 BCH": 2,
+                                                  "refused 10 stuff": 1}))
+    check(f"the axes are named: {texts}", {"slot", "frame", "120", "1", "2"} <= set(texts))
+
+
+def wrong_settings():
+    """Frames under another start: right parity and wrong BCH bits in every slot."""
+    put("frames", frames_of(WORKED, samples(10)))
+    words = ["--plan", "plan", "--mask", "0x1234567", "--start", "7", "frames", "-o", "back"]
+    line = well("another start", "monitor", *words, status=1).splitlines()[-1]
+    found = counts(line)
+    equal("another start", [found[name] for name in ("accepted", "BCH", "written", "lost")], [0, 94, 0, 2146])
+    equal("no packets", got("back"), b"")
+
+
+def many_frames():
+    """More frames than the picture has rows: two frames a row, and the worse answer of the two. They take more octets than
+    the run may have as memory.
+    """
+    frames = bytearray(frames_of(FEW, samples(240) * 201))
+    for frame, slot in ((1, 1), (4, 2), (201, 24)):
+        frames[(frame - 1) * FRAME + slot * SLOT - 1] ^= 1
+    put("frames", bytes(frames))
+    memory = limit(resource.RLIMIT_AS, len(frames) // 4)
+    well("many frames", "monitor", *SETTINGS, "frames", "-o", "back", *REPORTS, status=1, **memory)
+    texts, found = cells()
+    equal("cells of many frames", found, Counter({"accepted": 101 * 24 - 3, "dummy": 101 * 96, "refused 8 parity": 3}))
+    check(f"the axis tells frames: {texts}", {"20", "100", "200"} <= set(texts) and "each row the worst of 2 frames" in texts[0])
+
+
+def test():
+    report()
+    wrong_settings()
+    many_frames()
