@@ -11,9 +11,9 @@ pub fn read_plan(files: &mut Files, word: &Path) -> Result<Plan, Failure> {
     let mut input = files.open(Some(word), Content::Text)?;
     let mut text = [0; MOST_OCTETS + 1];
     let length = input.fill(&mut text)?;
-    let refused = |why: &str| Failure::refused(input.name(), Refusal::Plan, why);
-    let octets = octets_of(&text[..length]).map_err(|wrong| refused(&wrong))?;
-    Plan::of_octets(&octets).map_err(|_| refused("its groups break a rule that `s3frame plan --help` lists"))
+    let octets = octets_of(&text[..length]).map_err(|wrong| Failure::refused(input.name(), Refusal::Plan, wrong))?;
+    let rule = "its groups break a rule that `s3frame plan --help` lists";
+    Plan::of_octets(&octets).map_err(|refusal| Failure::refused(input.name(), refusal, rule))
 }
 
 /// The places of a plan's slots, slot 1 first.

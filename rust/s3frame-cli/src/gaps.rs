@@ -102,12 +102,11 @@ mod tests {
     }
 
     #[test]
-    fn the_search_ends_in_time_and_loses_no_packet() {
+    fn a_search_that_runs_out_of_time_loses_no_packet() {
         let sent: Vec<Digest> = (0..100_000).collect();
         let received: Vec<Digest> = sent.iter().rev().copied().collect();
-        let begun = Instant::now();
-        let comparison = compare(0, &sent, &received, Duration::from_millis(200));
-        assert!(begun.elapsed() < Duration::from_secs(30) && !comparison.whole);
+        let comparison = compare(0, &sent, &received, Duration::ZERO);
+        assert!(!comparison.whole);
         let covers =
             |range: fn(&Gap) -> Range<usize>| comparison.gaps.iter().map(|gap| range(gap).len()).sum::<usize>();
         assert_eq!(covers(|gap| gap.sent.clone()), covers(|gap| gap.received.clone()));
