@@ -80,12 +80,13 @@ module _ (s : FrameState) (t header packets coded next : List ℕ) (h : andThen 
   packets-received a r head area left w d e f g =
       let z = eq-eqb (roomNumber s header packets) 0 (then-zero (roomNumber s header packets) _ h .0) in
       let b = rw z at e in
-      let n = read-is s t (sourceArea s) coded next room-place ∙ refl in
-      let m = call-is ∙ n in
+      let m = call-is ∙ read-is s t (sourceArea s) coded next room-place in
       record {
         header-is = record { number = w ∙ ap (λ x. x .number) b ∙ sym m; area = rw m (rw z at f) };
         packets-are = record { number = w ∙ ap (λ x. x .number) b ∙ sym m; area = rw m (rw z at g) };
-        place = rw room-is (place-left s t (sourceArea s) coded next room-place (a .state) left (ap (λ x. x .state) b) d);
+        place =
+            place-left s t (sourceArea s) coded next room-place (a .state) left (ap (λ x. x .state) b) d
+            ∙ ap (λ (n : ℕ). pick (eqb n 0) (placed (nextState s)) next) (sym room-is);
       }
 
 -- and where they are refused

@@ -24,7 +24,7 @@ returns-2 : tie.Need-returns-2
 unfolding tablesNumber
 returns-2 c =
     let s = c .before .before .before .before .before in
-    let l : length (s .args .tables .now) ≡ length (tablesOf (s .args .plan)) → ⊥ = λ z. c .if2 .taken (z ∙ sym (c .before .entries .ensures)) in
+    let l : length (s .args .tables .now) ≡ length (tablesOf (s .args .plan)) → ⊥ = λ z. omega (arith, z, c .if2 .taken, c .before .entries .ensures) in
     refused _ _ _ _ (sym (then-next _ _ (none (c .before .before)) ∙ rw (ne-eqb _ _ l))) (λ z. omega arith)
 
 -- the area has the tables' length

@@ -1,12 +1,14 @@
 -- `stream::laid_number`: the place's number, that of the packets, and then the length of the header.
 use mathlib.Core.Path.{_≡_, sym, _∙_}
+use native.Mathlib.Omega.{arith}
 use borrow.Author.Needs.{needs}
 use borrow.Author.Tests.{eq-eqb, ne-eqb}
+use lib.ListN.{length}
 use Rattle.lists.specs.ChoiceLaws.{then-first, then-next}
 use Rattle.plan.specs.Rates.{dataOctetsOf}
 use Rattle.packets.specs.Packets.{packNumber}
 use Rattle.slot.specs.Calls.{dataNumber}
-use Rattle.stream.specs.SlotPackets.{rateAt, laidNumber}
+use Rattle.stream.specs.SlotPackets.{headerOctets, rateAt, laidNumber}
 use Rattle.stream.proofs.numbers.laid_number.Statement.{statement}
 use Rattle.stream.proofs.numbers.laid_number.Tie as tie
 
@@ -35,7 +37,9 @@ returns-3 : tie.Need-returns-3
 unfolding laidNumber
 returns-3 c =
     let p = c .before .before in
-    sym (then-next _ _ (place (p .before .before .before)) ∙ then-next _ _ (sym (packs p) ∙ c .before .if2 .left) ∙ rw (ne-eqb _ 22 (c .if3 .taken)))
+    let a = p .before .before .before .before .before .before .before .args in
+    let l : length (a .header .now) ≡ headerOctets → ⊥ = λ z. omega (arith, z, c .if3 .taken) in
+    sym (then-next _ _ (place (p .before .before .before)) ∙ then-next _ _ (sym (packs p) ∙ c .before .if2 .left) ∙ rw (ne-eqb _ headerOctets l))
 
 returns-4 : tie.Need-returns-4
 unfolding laidNumber
