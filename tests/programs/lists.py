@@ -1,5 +1,5 @@
 """`s3frame compare` on lists of packets."""
-from common import PACKET, equal, put, refused, run, samples, well
+from common import NULL, PACKET, equal, put, refused, run, samples, well
 
 
 def compared(sent, received, status, told=""):
@@ -40,6 +40,10 @@ def runs():
                  "only in RECEIVED: 5 packets, 90 to 94; SENT goes on at 110"))
     equal("nothing received", compared(packets, b"", 1),
           differ(0, 0, 200, 0, "only in SENT: 200 packets, 0 to 199; RECEIVED has ended"))
+    equal("null packets behind", compared(packets, packets + NULL * 3, 1),
+          differ(200, 0, 0, 3, "only in RECEIVED: 3 packets, 200 to 202, null; SENT has ended"))
+    equal("a null packet among others", compared(packets, part(others, 0, 1) + NULL + packets, 1),
+          differ(0, 200, 0, 2, "only in RECEIVED: 2 packets, 0 to 1, 1 of them null; SENT goes on at 0"))
     packet = part(packets, 0, 1)
     equal("one of equal packets is lost", compared(packet * 5, packet * 4, 1),
           differ(4, 0, 1, 0, "only in SENT: 1 packet, 4; RECEIVED has ended"))

@@ -3,7 +3,7 @@ use crate::failure::{Failure, Outcome};
 use crate::files::{Content, Files};
 use crate::gaps::{compare, Comparison, Digest, Gap};
 use crate::inputs::Input;
-use crate::packets::SYNC;
+use crate::packets::{is_null, SYNC};
 use crate::progress::Progress;
 use crate::report::Report;
 use crate::words::CompareWords;
@@ -26,6 +26,20 @@ fn digest(packet: &Packet) -> Digest {
         Digest::from(hasher.finish())
     };
     half(0) << 64 | half(1)
+}
+
+/// What is kept of the packets behind those that agree from the front: their digests, and which are null packets.
+#[derive(Default)]
+struct Rest {
+    digests: Vec<Digest>,
+    null: Vec<bool>,
+}
+
+impl Rest {
+    fn add(&mut self, packet: &Packet) {
+        self.digests.push(digest(packet));
+        self.null.push(is_null(packet));
+    }
 }
 
 /// A list of packets as it is read, and what was counted.
@@ -54,14 +68,15 @@ impl List {
         Ok(Some(packet))
     }
 
-    /// The digests of a packet that was read, if any, and of all that follow.
-    fn digests(&mut self, first: Option<Packet>, read: impl Fn(u64)) -> Result<Vec<Digest>, Failure> {
-        let mut digests: Vec<Digest> = first.iter().map(digest).collect();
+    /// A packet that was read, if any, and all that follow.
+    fn rest(&mut self, first: Option<Packet>, read: impl Fn(u64)) -> Result<Rest, Failure> {
+        let mut rest = Rest::default();
+        first.iter().for_each(|packet| rest.add(packet));
         while let Some(packet) = self.next()? {
-            digests.push(digest(&packet));
+            rest.add(&packet);
             read(self.input.taken());
         }
-        Ok(digests)
+        Ok(rest)
     }
 
     fn count(&self, name: &str, report: &mut Report) -> Result<(), Failure> {
@@ -82,15 +97,15 @@ pub fn run(words: &CompareWords) -> Result<Outcome, Failure> {
     let (front, rests) = read(&mut sent, &mut received)?;
     sent.count("SENT", &mut report)?;
     received.count("RECEIVED", &mut report)?;
-    let comparison = compare(front, &rests[0], &rests[1], PATIENCE);
-    tell(&comparison, [sent.packets, received.packets], &mut report)?;
+    let comparison = compare(front, &rests[0].digests, &rests[1].digests, PATIENCE);
+    tell(&comparison, &rests, [sent.packets, received.packets], &mut report)?;
     let outcome = Outcome::new(!comparison.gaps.is_empty());
     let outcome = outcome.left_over(sent.input.name(), "packet", sent.left_over);
     Ok(outcome.left_over(received.input.name(), "packet", received.left_over))
 }
 
-/// Reads both lists: how many packets agree from the front, and the digests of the others.
-fn read(sent: &mut List, received: &mut List) -> Result<(usize, [Vec<Digest>; 2]), Failure> {
+/// Reads both lists: how many packets agree from the front, and the others.
+fn read(sent: &mut List, received: &mut List) -> Result<(usize, [Rest; 2]), Failure> {
     let octets = sent.input.octets().zip(received.input.octets());
     let progress = Progress::new(octets.map(|(one, other)| one + other));
     let (mut front, mut two) = (0, (sent.next()?, received.next()?));
@@ -99,12 +114,12 @@ fn read(sent: &mut List, received: &mut List) -> Result<(usize, [Vec<Digest>; 2]
         progress.at(sent.input.taken() + received.input.taken());
         two = (sent.next()?, received.next()?);
     }
-    let of_sent = sent.digests(two.0, |octets| progress.at(octets + received.input.taken()))?;
-    let of_received = received.digests(two.1, |octets| progress.at(sent.input.taken() + octets))?;
+    let of_sent = sent.rest(two.0, |octets| progress.at(octets + received.input.taken()))?;
+    let of_received = received.rest(two.1, |octets| progress.at(sent.input.taken() + octets))?;
     Ok((front, [of_sent, of_received]))
 }
 
-fn tell(comparison: &Comparison, packets: [usize; 2], report: &mut Report) -> Result<(), Failure> {
+fn tell(comparison: &Comparison, rests: &[Rest; 2], packets: [usize; 2], report: &mut Report) -> Result<(), Failure> {
     report.line(format_args!("agree from the front: {} packets", comparison.front))?;
     report.line(format_args!("agree from the end: {} packets", comparison.end))?;
     if comparison.gaps.is_empty() {
@@ -112,8 +127,9 @@ fn tell(comparison: &Comparison, packets: [usize; 2], report: &mut Report) -> Re
     }
     report.line(format_args!("between them, packets counted from 0:"))?;
     for gap in &comparison.gaps {
-        tell_run(["SENT", "RECEIVED"], &gap.sent, gap.received.start, packets[1], report)?;
-        tell_run(["RECEIVED", "SENT"], &gap.received, gap.sent.end, packets[0], report)?;
+        let numbers = |run: &_, rest: &_| numbers(run, rest, comparison.front);
+        tell_run("SENT", numbers(&gap.sent, &rests[0]), "RECEIVED", gap.received.start, packets[1], report)?;
+        tell_run("RECEIVED", numbers(&gap.received, &rests[1]), "SENT", gap.sent.end, packets[0], report)?;
     }
     if !comparison.whole {
         let seconds = PATIENCE.as_secs();
@@ -124,22 +140,30 @@ fn tell(comparison: &Comparison, packets: [usize; 2], report: &mut Report) -> Re
     report.line(format_args!("only in SENT {sent}, only in RECEIVED {received}"))
 }
 
-/// The line of a run that only the first of two lists has: the other, of so many packets, goes on at a place.
+/// How many packets a run has, their numbers, and how many are null packets; nothing for a run without packets.
+fn numbers(run: &Range<usize>, rest: &Rest, front: usize) -> Option<String> {
+    let null = rest.null[run.start - front..run.end - front].iter().filter(|null| **null).count();
+    let of_them = match null {
+        0 => String::new(),
+        all if all == run.len() => ", null".to_string(),
+        some => format!(", {some} of them null"),
+    };
+    match run.len() {
+        0 => None,
+        1 => Some(format!("1 packet, {}{of_them}", run.start)),
+        count => Some(format!("{count} packets, {} to {}{of_them}", run.start, run.end - 1)),
+    }
+}
+
+/// The line of a run that only one list has: the other, of so many packets, goes on at a place.
 fn tell_run(
-    names: [&str; 2],
-    run: &Range<usize>,
-    other: usize,
+    name: &str,
+    numbers: Option<String>,
+    other: &str,
+    place: usize,
     packets: usize,
     report: &mut Report,
 ) -> Result<(), Failure> {
-    if run.is_empty() {
-        return Ok(());
-    }
-    let [name, second] = names;
-    let numbers = match run.len() {
-        1 => format!("1 packet, {}", run.start),
-        count => format!("{count} packets, {} to {}", run.start, run.end - 1),
-    };
-    let after = if other < packets { format!("goes on at {other}") } else { "has ended".to_string() };
-    report.line(format_args!("only in {name}: {numbers}; {second} {after}"))
+    let after = if place < packets { format!("goes on at {place}") } else { "has ended".to_string() };
+    numbers.map_or(Ok(()), |numbers| report.line(format_args!("only in {name}: {numbers}; {other} {after}")))
 }

@@ -18,8 +18,12 @@ pub fn fill_null(packets: &mut [u8]) {
     packets.chunks_exact_mut(PACKET_OCTETS).for_each(|packet| packet.copy_from_slice(&NULL_PACKET));
 }
 
-/// How many of these packets have the PID of null packets.
+/// Whether a packet has the PID of null packets.
+pub fn is_null(packet: &[u8]) -> bool {
+    packet[1] & 0x1F == 0x1F && packet[2] == 0xFF
+}
+
+/// How many of these packets have it.
 pub fn count_null(packets: &[u8]) -> usize {
-    let null = |packet: &&[u8]| packet[1] & 0x1F == 0x1F && packet[2] == 0xFF;
-    packets.chunks_exact(PACKET_OCTETS).filter(null).count()
+    packets.chunks_exact(PACKET_OCTETS).filter(|packet| is_null(packet)).count()
 }

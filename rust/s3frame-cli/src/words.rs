@@ -166,7 +166,8 @@ pub struct MonitorWords {
 /// Compares two lists of packets
 ///
 /// Says how many packets each list has, how many agree from the front and, behind those, from the end; and then which
-/// packets between are in one list only, as runs with their numbers, counted from 0.
+/// packets between are in one list only, as runs with their numbers, counted from 0, and how many of them are null packets:
+/// those that fill the last frame come back behind the packets that were sent.
 ///
 /// Packets that do not begin 0x47 are compared as they are. Packets between are told apart by digests of 128 bits.
 #[derive(Args)]
