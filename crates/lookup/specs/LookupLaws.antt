@@ -3,7 +3,8 @@
 use mathlib.Core.Path.{_≡_, sym, _∙_}
 use mathlib.Core.Bool.{true}
 use mathlib.Core.List.{List}
-use Prim.Native.Nat.{ℕ, _+_, _-_, _≤_, _<_}
+use Prim.Native.Nat.{ℕ, zero, suc, _+_, _-_, _*_, _≤_, _<_}
+use native.Mathlib.Numerals.{add-one}
 use native.Mathlib.Omega.{arith}
 use borrow.Author.Tests.{eq-eqb, eqb-false, leb-true}
 use borrow.Rule.Slice.PartMut.{putMid}
@@ -25,7 +26,7 @@ use Rattle.plan.specs.RateLaws.{between}
 use Rattle.plan.specs.Plans.{rateOf, planNumber}
 use Rattle.plan.specs.PlanLaws.{accepted, group-values}
 use Rattle.published.specs.Published.{tableOf, lengthOf, copyNumber}
-use Rattle.published.specs.PublishedLaws.{accepted as table-accepted, number-good}
+use Rattle.published.specs.PublishedLaws.{accepted as table-accepted, table-short, number-good}
 use Rattle.frame.specs.Tables.{tablesOk}
 use Rattle.frame.specs.TableLaws.{joined-ok}
 use Rattle.lookup.specs.Lookups.{tablesOf, placeNumber}
@@ -73,6 +74,16 @@ module _ (p : Plan) where
     length-known : (g : ℕ) → g < p .count → lengthOf (rateOf p g) ≡ length (tableOf (rateOf p g))
     unfolding lengthOf
     length-known g h = rw (rate-known g h)
+
+    -- no table has more than 510 numbers, and no plan more than eight groups
+    start-few : (g : ℕ) → g ≤ p .count → tableStart p g ≤ 510 * g
+    start-few zero h = omega (arith, start-none)
+    start-few (suc g) h =
+        let b = between 1 11 (rateOf p g) (rate-known g h) in
+        rw (← add-one g) (omega (arith, start-few g (omega arith), start-more g h, length-known g h, table-short (rateOf p g) (b .low) (b .high)))
+
+    pub tables-few : length (tablesOf p) ≤ 4080
+    tables-few = omega (arith, start-all, start-few (p .count) (omega arith), accepted p n .high)
 
     -- the table of one group more copied behind those before it
     pub table-put : (g : ℕ) → g < p .count → (at end : ℕ) (found area : List ℕ) (r : ℕ) (left : List ℕ) → at ≡ tableStart p g → end ≡ at + lengthOf (rateOf p g)

@@ -1,5 +1,6 @@
 // The published parity tables of a plan's groups, end to end.
 ghost use mathlib.Core.Path.{_≡_};
+ghost use Prim.Native.Nat.{_≤_};
 ghost use lib.ListN.{length};
 ghost use Rattle.refusal.specs.Answers.{Answered};
 ghost use Rattle.plan.specs.Plans.{planNumber};
@@ -25,6 +26,7 @@ fn entries(plan: Plan) -> usize
 // The same of any plan; 0 where it is refused.
 pub fn tables_entries(plan: Plan) -> usize
     ensures { λ r. ⌜ r ≡ tablesEntries plan ⌝ }
+    ensures { λ r. ⌜ r ≤ 4080 ⌝ }
 {
     if plan::plan_number(plan) != 0 {
         return 0;

@@ -6,7 +6,7 @@ use Rattle.s3frame.proofs.tables.s3_tables_entries.Statement.{statement
 use Rattle.s3frame.proofs.tables.s3_tables_entries.Tie as tie
 
 returns : tie.Need-returns
-returns c = c .tables-entries .ensures ∙ ap tablesEntries (c .before .plan-of .ensures)
+returns c = c .tables-entries .ensures .0 ∙ ap tablesEntries (c .before .plan-of .ensures)
 
 pub s3-tables-entries-spec : {M : Type 1} → statement M
 s3-tables-entries-spec = tie.close (tie.spec (λ c κs. search needs) (λ c κs. search needs) returns)
