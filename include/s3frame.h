@@ -17,7 +17,7 @@ extern "C" {
 #endif
 
 /* The version of the library: 10,000 times the major number, 100 times the minor one, and the patch number. */
-#define S3_VERSION 200
+#define S3_VERSION 300
 
 /* A result that nobody looks at is a mistake, of which the compiler warns. */
 #if defined(__cplusplus) && __cplusplus >= 201703L
@@ -32,7 +32,7 @@ extern "C" {
 
 /* The numbers. */
 #define S3_ACCEPTED 0u
-#define S3_PLAN 1u      /* the plan breaks a rule; in a call without a plan, an unknown modulation or rate */
+#define S3_PLAN 1u      /* not 1 to 8 groups, or slot 0; in a call without a plan, an unknown modulation or rate */
 #define S3_DUMMY 2u     /* a dummy where data was asked for, or a data slot at a pass */
 #define S3_FULL 3u      /* slot 120 is past */
 #define S3_LENGTH 4u    /* an area isn't exactly its length */
@@ -44,11 +44,14 @@ extern "C" {
 #define S3_STUFF 10u    /* the received stuff bits are not all ones */
 #define S3_TAIL 11u     /* one of the last two TMCC bits is 1 */
 #define S3_LABEL 12u    /* a label is 2^modulation or more */
+#define S3_VALUE 13u    /* a group's modulation or rate is unknown, or its slots are 0 or no multiple of 5 */
+#define S3_ORDER 14u    /* the groups do not fall */
+#define S3_TOTAL 15u    /* the slots of all groups do not add to 120 */
 
 /* The word of a number; that of 0 is "accepted", and a number that no call answers has none, "unknown". */
 S3_RESULT static inline const char *s3_word(uint32_t number) {
-    static const char *const words[] = {"accepted", "plan", "dummy", "full", "length", "table", "register",
-                                        "sync", "parity", "BCH", "stuff", "tail", "label"};
+    static const char *const words[] = {"accepted", "plan", "dummy", "full", "length", "table", "register", "sync",
+                                        "parity", "BCH", "stuff", "tail", "label", "value", "order", "total"};
     return number < sizeof words / sizeof *words ? words[number] : "unknown";
 }
 
@@ -71,9 +74,10 @@ S3_RESULT static inline const char *s3_word(uint32_t number) {
  * T, the length of the published parity table, is 278, 333, 356, 402, 432, 461, 471, 465, 481, 510, 439: s3_table_entries.
  * Modulations 1 to 5 are pi/2-shift BPSK, QPSK, 8PSK, 16APSK, 32APSK: bits in a symbol.
  *
- * plan: three octets for each of 1 to 8 groups: modulation, rate and slots. Any other plan_length is refused 1. The slots
- * of a group are a positive multiple of 5, those of all groups add to 120, and groups fall strictly: higher modulation
- * first, then higher rate. Of a group's n slots the first n * modulation / 5 carry data; the others are dummies.
+ * plan: three octets for each of 1 to 8 groups: modulation, rate and slots. Its rules are tested one after the other, each
+ * over the whole plan: any other plan_length is refused 1; an unknown modulation or rate, or slots that are 0 or no multiple
+ * of 5, 13; groups that do not fall strictly, higher modulation first, then higher rate, 14; slots of all groups that do not
+ * add to 120, 15. Of a group's n slots the first n * modulation / 5 carry data; the others are dummies.
  *
  * mask, start: the settings of the 25-bit dispersal register; a TMCC block has 15 bits. Mask has the top bit.
  *
@@ -101,19 +105,19 @@ S3_RESULT uint32_t s3_packets_of(uint32_t rate);
 
 /* Where a slot lies.
  *   place  4 numbers: its group from 0, modulation, rate, and 1 where it carries data; zeros with a refusal
- * Numbers: 1 (also slot 0), 3, 4. Where place has another length it is left as found. */
+ * Numbers: 1 (also slot 0), 13, 14, 15, 3, 4. Where place has another length it is left as found. */
 S3_RESULT uint32_t s3_place(const uint8_t *plan, size_t plan_length, uint32_t slot, uint32_t *place,
                             size_t place_length);
 
 /* Opens a frame.
- *   next  2 numbers: slot 1 and the register at its start; two zeros where the call refuses 1 or 6
- * Numbers: 1, 6, 4. Where next has another length it is left as found. */
+ *   next  2 numbers: slot 1 and the register at its start; two zeros with a refusal
+ * Numbers: 1, 13, 14, 15, 6, 4. Where next has another length it is left as found. */
 S3_RESULT uint32_t s3_open(const uint8_t *plan, size_t plan_length, uint32_t mask, uint32_t start, uint32_t *next,
                            size_t next_length);
 
 /* Passes a dummy.
  *   next  2 numbers: the next slot, and the register as handed in
- * Numbers: 1 (also slot 0), 6, 3, 2 (at a data slot), 4. */
+ * Numbers: 1 (also slot 0), 13, 14, 15, 6, 3, 2 (at a data slot), 4. */
 S3_RESULT uint32_t s3_pass(const uint8_t *plan, size_t plan_length, uint32_t mask, uint32_t start, uint32_t slot,
                            uint32_t register_, uint32_t *next, size_t next_length);
 
@@ -121,7 +125,7 @@ S3_RESULT uint32_t s3_pass(const uint8_t *plan, size_t plan_length, uint32_t mas
  *   source  22 + 187 * P octets
  *   coded   5,610 octets: the slot
  *   next    2 numbers: the next slot, and the register there
- * Numbers: 1 (also slot 0), 6, 3, 2 (at a dummy), 4, 5. */
+ * Numbers: 1 (also slot 0), 13, 14, 15, 6, 3, 2 (at a dummy), 4, 5. */
 S3_RESULT uint32_t s3_code_slot(const uint8_t *plan, size_t plan_length, uint32_t mask, uint32_t start, uint32_t slot,
                                 uint32_t register_, const uint16_t *table, size_t table_length, const uint8_t *source,
                                 size_t source_length, uint8_t *coded, size_t coded_length, uint32_t *next,
@@ -131,7 +135,7 @@ S3_RESULT uint32_t s3_code_slot(const uint8_t *plan, size_t plan_length, uint32_
  *   coded   5,610 octets
  *   source  22 + 187 * P octets: header and data
  *   next    2 numbers: the next slot, and the register there; written with 0, and with 8, 9 and 10 too
- * Numbers: 1 (also slot 0), 6, 3, 2 (at a dummy), 4, 5, 8, 9, 10. */
+ * Numbers: 1 (also slot 0), 13, 14, 15, 6, 3, 2 (at a dummy), 4, 5, 8, 9, 10. */
 S3_RESULT uint32_t s3_read_slot(const uint8_t *plan, size_t plan_length, uint32_t mask, uint32_t start, uint32_t slot,
                                 uint32_t register_, const uint16_t *table, size_t table_length, const uint8_t *coded,
                                 size_t coded_length, uint8_t *source, size_t source_length, uint32_t *next,
@@ -142,7 +146,7 @@ S3_RESULT uint32_t s3_read_slot(const uint8_t *plan, size_t plan_length, uint32_
  *   packets  188 * P octets, each packet beginning 0x47
  *   coded    5,610 octets: the slot
  *   next     2 numbers: the next slot, and the register there
- * Numbers: 1 (also slot 0), 6, 3, 2 (at a dummy), 4 (packets), 7, 4 (header, coded, next), 5. */
+ * Numbers: 1 (also slot 0), 13, 14, 15, 6, 3, 2 (at a dummy), 4 (packets), 7, 4 (header, coded, next), 5. */
 S3_RESULT uint32_t s3_code_packets(const uint8_t *plan, size_t plan_length, uint32_t mask, uint32_t start,
                                    uint32_t slot, uint32_t register_, const uint16_t *table, size_t table_length,
                                    const uint8_t *header, size_t header_length, const uint8_t *packets,
@@ -154,7 +158,7 @@ S3_RESULT uint32_t s3_code_packets(const uint8_t *plan, size_t plan_length, uint
  *   header   22 octets
  *   packets  188 * P octets: the packets, 0x47 put back
  *   next     2 numbers: the next slot, and the register there; written with 0, and with 8, 9 and 10 too
- * Numbers: 1 (also slot 0), 6, 3, 2 (at a dummy), 4, 5, 8, 9, 10. */
+ * Numbers: 1 (also slot 0), 13, 14, 15, 6, 3, 2 (at a dummy), 4, 5, 8, 9, 10. */
 S3_RESULT uint32_t s3_read_packets(const uint8_t *plan, size_t plan_length, uint32_t mask, uint32_t start,
                                    uint32_t slot, uint32_t register_, const uint16_t *table, size_t table_length,
                                    const uint8_t *coded, size_t coded_length, uint8_t *header, size_t header_length,
@@ -169,7 +173,7 @@ S3_RESULT uint32_t s3_check_parity(uint32_t rate, const uint16_t *table, size_t 
 /* Codes a whole frame.
  *   source  the octets of all data slots, end to end
  *   frame   673,200 octets: each data slot in its part; the dummies' parts are left as found
- * Numbers: 1, 6, 4, 5. */
+ * Numbers: 1, 13, 14, 15, 6, 4, 5. */
 S3_RESULT uint32_t s3_code_frame(const uint8_t *plan, size_t plan_length, uint32_t mask, uint32_t start,
                                  const uint16_t *tables, size_t tables_length, const uint8_t *source,
                                  size_t source_length, uint8_t *frame, size_t frame_length);
@@ -178,7 +182,7 @@ S3_RESULT uint32_t s3_code_frame(const uint8_t *plan, size_t plan_length, uint32
  *   frame    673,200 octets
  *   source   the octets of all data slots, end to end; those of a slot that is not read with 0 are left as found
  *   answers  120 octets, one for each slot: 0, 2 for a dummy, or 8, 9, 10
- * Numbers: 1, 6, 4, 5. */
+ * Numbers: 1, 13, 14, 15, 6, 4, 5. */
 S3_RESULT uint32_t s3_read_frame(const uint8_t *plan, size_t plan_length, uint32_t mask, uint32_t start,
                                  const uint16_t *tables, size_t tables_length, const uint8_t *frame,
                                  size_t frame_length, uint8_t *source, size_t source_length, uint8_t *answers,
@@ -245,7 +249,7 @@ S3_RESULT uint32_t s3_published_table(uint32_t rate, uint16_t *table, size_t tab
 
 /* Copies the published parity tables of a plan's groups, in group order, as the whole-frame calls take them.
  *   tables  as many numbers as s3_tables_entries says
- * Numbers: 1, 4. */
+ * Numbers: 1, 13, 14, 15, 4. */
 S3_RESULT uint32_t s3_published_tables(const uint8_t *plan, size_t plan_length, uint16_t *tables, size_t tables_length);
 
 #ifdef __cplusplus

@@ -91,7 +91,9 @@ static void words(void)
 {
     EXPECT(strcmp(s3_word(S3_ACCEPTED), "accepted") == 0 && strcmp(s3_word(S3_PLAN), "plan") == 0);
     EXPECT(strcmp(s3_word(S3_BCH), "BCH") == 0 && strcmp(s3_word(S3_LABEL), "label") == 0);
-    EXPECT(strcmp(s3_word(13), "unknown") == 0 && strcmp(s3_word(UINT32_MAX), "unknown") == 0);
+    EXPECT(strcmp(s3_word(S3_VALUE), "value") == 0 && strcmp(s3_word(S3_ORDER), "order") == 0);
+    EXPECT(strcmp(s3_word(S3_TOTAL), "total") == 0);
+    EXPECT(strcmp(s3_word(16), "unknown") == 0 && strcmp(s3_word(UINT32_MAX), "unknown") == 0);
 }
 
 /* What a caller asks before it lends. */
@@ -141,16 +143,11 @@ static void places(void)
 
 static void opening(void)
 {
-    static const uint8_t short_plan[] = {4, 7, 115}, no_fives[] = {4, 7, 116, 2, 3, 4}, rising[] = {2, 3, 5, 4, 7, 115};
-    static const uint8_t rate_12[] = {5, 12, 120}, nine[27] = {5, 11, 5};
+    static const uint8_t short_plan[] = {4, 7, 115};
     uint32_t next[3] = {7, 8, 9};
     EXPECT(s3_open(mixed, sizeof mixed, mask, start, next, 2) == S3_ACCEPTED && at(next, 1, 1));
     EXPECT(s3_open(mixed, sizeof mixed, mask, 5, next, 2) == S3_ACCEPTED && at(next, 1, 5));
-    EXPECT(s3_open(short_plan, sizeof short_plan, mask, start, next, 2) == S3_PLAN && at(next, 0, 0));
-    EXPECT(s3_open(no_fives, sizeof no_fives, mask, start, next, 2) == S3_PLAN);
-    EXPECT(s3_open(rising, sizeof rising, mask, start, next, 2) == S3_PLAN);
-    EXPECT(s3_open(rate_12, sizeof rate_12, mask, start, next, 2) == S3_PLAN);
-    EXPECT(s3_open(nine, sizeof nine, mask, start, next, 2) == S3_PLAN);
+    EXPECT(s3_open(short_plan, sizeof short_plan, mask, start, next, 2) == S3_TOTAL && at(next, 0, 0));
     EXPECT(s3_open(mixed, 0, mask, start, next, 2) == S3_PLAN);
     EXPECT(s3_open(mixed, 5, mask, start, next, 2) == S3_PLAN);
     next[0] = next[1] = 7;
@@ -160,6 +157,59 @@ static void opening(void)
     next[0] = 7;
     EXPECT(s3_open(mixed, sizeof mixed, mask, start, next, 1) == S3_LENGTH && at(next, 7, 0));
     EXPECT(s3_open(mixed, 5, mask, start, next, 3) == S3_PLAN && at(next, 7, 0) && next[2] == 9);
+}
+
+/* One plan for each rule, and for each pair of rules. */
+static const struct {
+    uint32_t number;
+    size_t length;
+    uint8_t octets[27];
+} refused_plans[] = {
+    {S3_PLAN, 0, {0}},
+    {S3_PLAN, 27, {1, 9, 10, 1, 8, 10, 1, 7, 10, 1, 6, 10, 1, 5, 10, 1, 4, 10, 1, 3, 10, 1, 2, 10, 1, 1, 40}},
+    {S3_VALUE, 6, {4, 7, 116, 2, 3, 4}},
+    {S3_VALUE, 6, {4, 7, 120, 2, 3, 0}},
+    {S3_VALUE, 6, {4, 7, 115, 0, 3, 5}},
+    {S3_VALUE, 3, {5, 12, 120}},
+    {S3_ORDER, 6, {2, 3, 5, 4, 7, 115}},
+    {S3_ORDER, 6, {4, 7, 60, 4, 7, 60}},
+    {S3_TOTAL, 3, {4, 7, 115}},
+    {S3_TOTAL, 9, {4, 7, 115, 2, 3, 5, 1, 1, 255}},
+    {S3_PLAN, 27, {1, 12, 10, 1, 11, 10, 1, 10, 10, 1, 9, 10, 1, 8, 10, 1, 7, 10, 1, 6, 10, 1, 5, 10, 1, 4, 40}},
+    {S3_PLAN, 27, {1, 1, 10, 1, 2, 10, 1, 3, 10, 1, 4, 10, 1, 5, 10, 1, 6, 10, 1, 7, 10, 1, 8, 10, 1, 9, 40}},
+    {S3_PLAN, 27, {1, 9, 10, 1, 8, 10, 1, 7, 10, 1, 6, 10, 1, 5, 10, 1, 4, 10, 1, 3, 10, 1, 2, 10, 1, 1, 45}},
+    {S3_VALUE, 6, {2, 3, 4, 4, 7, 116}},
+    {S3_VALUE, 3, {4, 12, 115}},
+    {S3_ORDER, 6, {2, 3, 5, 4, 7, 110}},
+};
+
+/* Every call that is handed a plan answers the first rule that it breaks, whatever else is wrong: here mask, register and all
+ * lengths are. Slot 0 comes before the plan. */
+static void refusing_plans(void)
+{
+    uint8_t given[1] = {FOUND}, octets[1] = {FOUND}, more[1] = {FOUND};
+    uint16_t table[1] = {FOUND};
+    uint32_t next[1] = {FOUND};
+    for (size_t k = 0; k < COUNT(refused_plans); k++) {
+        const uint8_t *const plan = refused_plans[k].octets;
+        const size_t n = refused_plans[k].length;
+        const uint32_t number = refused_plans[k].number;
+#define PASS(slot) s3_pass(plan, n, 0, 0, slot, 0, next, 1)
+#define CODE_SLOT(slot) s3_code_slot(plan, n, 0, 0, slot, 0, table, 1, given, 1, octets, 1, next, 1)
+#define READ_SLOT(slot) s3_read_slot(plan, n, 0, 0, slot, 0, table, 1, given, 1, octets, 1, next, 1)
+#define FROM_PACKETS(slot) s3_code_packets(plan, n, 0, 0, slot, 0, table, 1, given, 1, given, 1, octets, 1, next, 1)
+        EXPECT(s3_source_octets(plan, n) == 0 && s3_tables_entries(plan, n) == 0);
+        EXPECT(s3_place(plan, n, 121, next, 1) == number && s3_place(plan, n, 0, next, 1) == S3_PLAN);
+        EXPECT(s3_published_tables(plan, n, table, 1) == number && s3_open(plan, n, 0, 0, next, 1) == number);
+        EXPECT(PASS(121) == number && PASS(0) == S3_PLAN);
+        EXPECT(CODE_SLOT(121) == number && CODE_SLOT(0) == S3_PLAN);
+        EXPECT(READ_SLOT(121) == number && READ_SLOT(0) == S3_PLAN);
+        EXPECT(FROM_PACKETS(121) == number && FROM_PACKETS(0) == S3_PLAN);
+        EXPECT(s3_read_packets(plan, n, 0, 0, 1, 0, table, 1, given, 1, octets, 1, more, 1, next, 1) == number);
+        EXPECT(s3_code_frame(plan, n, 0, 0, table, 1, given, 1, octets, 1) == number);
+        EXPECT(s3_read_frame(plan, n, 0, 0, table, 1, given, 1, octets, 1, more, 1) == number);
+    }
+    EXPECT(octets[0] == FOUND && more[0] == FOUND && table[0] == FOUND && next[0] == FOUND);
 }
 
 static void passing(void)
@@ -495,6 +545,7 @@ int main(void)
     asking();
     places();
     opening();
+    refusing_plans();
     passing();
     coding_a_slot();
     reading_a_slot();

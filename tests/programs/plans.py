@@ -6,6 +6,7 @@ import xml.etree.ElementTree as xml
 from common import EIGHT, FEW, PLAN_LIST, WORKED, check, equal, got, put, refused, run, well
 
 PACKETS = [10, 12, 15, 18, 20, 22, 23, 24, 25, 26, 27]
+WORDS = {"1": "plan", "13": "value", "14": "order", "15": "total"}
 SVG = "{http://www.w3.org/2000/svg}"
 
 
@@ -31,35 +32,47 @@ def carried(listed):
 
 
 def beside_plan_list(text):
-    """Compares one text's answers; whether it was accepted."""
+    """Compares one text's answers; its number."""
     put("plan", text)
     listed = subprocess.run([PLAN_LIST], input=text.encode(), capture_output=True, check=True).stdout.decode()
     status, out, error = run("plan", "plan")
-    if listed != "refused 1\n":
+    if not listed.startswith("refused "):
         equal(f"the list of {text!r}", (status, out.decode(), error), (0, f"{listed}packets {carried(listed)}\n", ""))
-        return True
-    refusal = error.startswith("s3frame plan: plan: refused 1 plan: ") and error.count("\n") == 1
-    check(f"{text!r} is refused: {error}", (status, out) == (2, b"") and refusal)
-    return False
+        return "0"
+    number = listed[len("refused "):-1]
+    refusal = error.startswith(f"s3frame plan: plan: refused {number} {WORDS[number]}: ") and error.count("\n") == 1
+    check(f"{text!r} is refused {number}: {error}", (status, out) == (2, b"") and refusal)
+    return number
 
 
 def lists():
     numbers = random.Random(1)
-    texts = [WORKED, EIGHT, FEW, "", "\n", WORKED * 20, "4 7 115\n", "4 7 116\n2 3 4\n", "2 3 5\n4 7 115\n", "4 7 115\n2 3 5",
-             "4 7 115\n2 3 05\n", "0 0 0\n", "5 11 376\n", "5 11 120\n\n", "1 1 10\n" * 9, "1 1 1000\n"]
+    for text, number in [
+        (WORKED, "0"), (EIGHT, "0"), (FEW, "0"), ("", "1"), ("\n", "1"), (WORKED * 20, "1"), ("1 1 10\n" * 9, "1"),
+        ("4 7 115\n2 3 5", "1"), ("4 7 115\n2 3 05\n", "1"), ("5 11 120\n\n", "1"), ("1 1 1000\n", "1"), ("0 0 0\n", "13"),
+        ("4 7 116\n2 3 4\n", "13"), ("2 3 5\n4 7 115\n", "14"), ("4 7 115\n", "15"),
+        # wrong in two ways, ..
+        ("4 12 0115\n", "1"), ("2 3 4\n4 7 116\n", "13"), ("4 12 115\n", "13"), ("2 3 5\n4 7 110\n", "14"),
+        # .. and numbers above an octet's
+        ("5 11 375\n", "15"), ("5 11 376\n", "13"), ("5 11 999\n", "13"), ("256 1 120\n", "13"), ("1 261 120\n", "13"),
+        ("1 1 60\n2 1 300\n", "14"),
+    ]:
+        equal(f"the number of {text!r}", beside_plan_list(text), number)
     good = [random_plan(numbers) for _ in range(60)]
-    texts += good + [damaged_text(numbers, text) for text in good for _ in range(3)]
-    accepted = [beside_plan_list(text) for text in texts]
-    check("both answers were compared", 60 < sum(accepted) < len(texts) - 60)
+    answers = [beside_plan_list(text) for text in good + [damaged_text(numbers, text) for text in good for _ in range(5)]]
+    check(f"every answer was compared: {answers}", {"0", *WORDS} == set(answers) and answers.count("0") >= 60)
     equal("a plan on standard input", run("plan", "-", given=WORKED.encode())[1], run("plan", "plan_of_01")[1])
 
 
 def wrong_lines():
-    for text, line in [("4 7 115\n2 3  5\n", "line 2: not three numbers"), ("4 7\n2 3 5\n", "line 1: not three numbers"),
-                       ("4 7 115\n2 3 5", "line 2: no line feed"), (WORKED * 20, "more than 128 octets"), ("", "no lines"),
-                       ("4 7 115\n2 3 10\n", "break a rule")]:
+    for text, line in [("4 7 115\n2 3  5\n", "1 plan: line 2: not three numbers"), ("4 7\n2 3 5\n", "1 plan: line 1: not three"),
+                       ("4 7 115\n2 3 5", "1 plan: line 2: no line feed"), (WORKED * 20, "1 plan: .* more than 128 octets"),
+                       ("", "1 plan: there are no lines"), ("1 1 10\n" * 9, "1 plan: there are more than 8 lines"),
+                       ("5 1 60\n4 7 55\n2 12 5\n", r"13 value: .*unknown.* \(line 3\)$"),
+                       ("5 1 60\n2 3 5\n4 7 55\n", r"14 order: .*do not fall.* \(lines 2 and 3\)$"),
+                       ("4 7 115\n2 3 10\n", "15 total: .*do not add to 120$")]:
         put("wrong", text)
-        refused(f"the plan {text[:20]!r}", ["plan", "wrong", "--svg", "out"], f"^s3frame plan: wrong: refused 1 plan: .*{line}")
+        refused(f"the plan {text[:20]!r}", ["plan", "wrong", "--svg", "out"], f"^s3frame plan: wrong: refused {line}")
     refused("a missing plan", ["plan", "missing", "--svg", "out"], "^s3frame plan: missing: No such file")
     refused("a plan that is a folder", ["plan", ".", "--svg", "out"], r"^s3frame plan: \.: Is a directory")
     refused("no plan", ["plan"], "^s3frame: .*required")

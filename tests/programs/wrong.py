@@ -16,11 +16,11 @@ def settings(job, given):
     def with_settings(plan, mask, start):
         return [job, "--plan", plan, "--mask", mask, "--start", start, given, "-o", "out"]
 
-    for what, plan, why in [("a plan of 116 slots", "4 7 111\n2 3 5\n", "its groups break a rule"),
-                            ("no plan", "", "there are no lines"),
-                            ("a long plan", WORKED * 20, "the text has more than 128 octets")]:
+    for what, plan, why in [("a plan of 116 slots", "4 7 111\n2 3 5\n", "13 value: "), ("a plan of 115 slots", "4 7 115\n", "15 total: "),
+                            ("groups that rise", "2 3 5\n4 7 115\n", "14 order: "), ("no plan", "", "1 plan: there are no lines"),
+                            ("a long plan", WORKED * 20, "1 plan: the text has more than 128 octets")]:
         put("wrong", plan)
-        refused(what, with_settings("wrong", MASK, START), f"^s3frame {job}: wrong: refused 1 plan: {why}")
+        refused(what, with_settings("wrong", MASK, START), f"^s3frame {job}: wrong: refused {why}")
     refused("a missing plan", with_settings("missing", MASK, START), f"^s3frame {job}: missing: No such file")
     refused("a plan that is a folder", with_settings(".", MASK, START), rf"^s3frame {job}: \.: Is a directory")
     for what, mask, start in [("a mask that is no number", "12a", START), ("a mask of 33 bits", "4294967296", START),

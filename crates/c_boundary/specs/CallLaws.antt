@@ -8,7 +8,7 @@ use borrow.Author.Tests.{lt-leb, eq-eqb, ne-eqb, eqb-true}
 use lib.Dec.{eqb}
 use lib.ListN.{length}
 use Rattle.lists.specs.Choice.{pick, andThen}
-use Rattle.lists.specs.ChoiceLaws.{then-zero, then-next, then-first, not-refused}
+use Rattle.lists.specs.ChoiceLaws.{then-zero, then-next, then-first, onward, not-refused}
 use Rattle.refusal.specs.Numbers.{LENGTH}
 use Rattle.refusal.specs.Answers.{Answered}
 use Rattle.refusal.specs.AnswerLaws.{refused}
@@ -28,10 +28,6 @@ use Rattle.c_boundary.specs.Calls.{placed, nextNumber, passCall, slotCal
 pub next-two : (next : List ℕ) → nextNumber next ≡ 0 → length next ≡ 2
 unfolding nextNumber
 next-two next h = eqb-true (length next) 2 (not-refused (eqb (length next) 2) LENGTH (omega arith) h)
-
--- a refusal goes through what is tested behind it
-pub onward : (a b d : ℕ) → a ≡ b → (b ≡ 0 → ⊥) → andThen a d ≡ b
-onward a b d e n = then-first a d (λ z. n (sym e ∙ z)) ∙ e
 
 -- a state's own refusal is that of each call
 module _ (s : FrameState) (n : stateNumber s ≡ 0 → ⊥) (next : List ℕ) where

@@ -6,7 +6,7 @@ use Prim.Native.Nat.{ℕ}
 use borrow.Author.Tests.{eq-eqb, ne-eqb}
 use lib.Dec.{eqb}
 use Rattle.lists.specs.Choice.{pick, andThen}
-use Rattle.lists.specs.ChoiceLaws.{then-zero, then-next, then-first, then-both}
+use Rattle.lists.specs.ChoiceLaws.{then-zero, then-next, then-first, then-both, onward}
 use Rattle.refusal.specs.AnswerLaws.{refused}
 use Rattle.plan.specs.declared.Plan.{Plan}
 use Rattle.plan.specs.declared.FrameState.{FrameState}
@@ -19,7 +19,7 @@ use Rattle.stream.specs.SlotPackets.{laid, laidNumber, roomNumber, sourceArea, 
 use Rattle.stream.specs.SlotPacketsLaws.{lays, room}
 use Rattle.c_boundary.specs.Narrow.{narrowed}
 use Rattle.c_boundary.specs.Calls.{placed, nextNumber, slotCall, readCall}
-use Rattle.c_boundary.specs.CallLaws.{onward, place-given, code-good, read-is, place-left}
+use Rattle.c_boundary.specs.CallLaws.{place-given, code-good, read-is, place-left}
 use Rattle.c_slots.specs.PacketCalls.{codePacketsCall, roomCall, readPacketsCall, CodedPackets, ReceivedPackets}
 
 -- a state's own refusal is that of each call

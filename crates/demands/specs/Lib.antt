@@ -1,4 +1,6 @@
 pub mod Statements
+pub mod Requests
 pub mod DemandTwo
 pub mod DemandThree
 pub mod WorkedByHand
+pub mod PlanRules

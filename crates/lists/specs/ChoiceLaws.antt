@@ -61,5 +61,9 @@ then-next a b e = rw (eq-eqb a 0 e)
 pub then-first : (a b : ℕ) → (a ≡ 0 → ⊥) → andThen a b ≡ a
 then-first a b n = rw (ne-eqb a 0 n)
 
+-- and it goes through what is tested behind it
+pub onward : (a n b : ℕ) → a ≡ n → (n ≡ 0 → ⊥) → andThen a b ≡ n
+onward a n b e h = then-first a b (λ z. h (sym e ∙ z)) ∙ e
+
 pub then-both : (a b : ℕ) → a ≡ 0 → b ≡ 0 → andThen a b ≡ 0
 then-both a b e f = then-next a b e ∙ f

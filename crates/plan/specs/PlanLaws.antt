@@ -1,20 +1,21 @@
 -- Laws of plans: what an accepted plan has.
 use mathlib.Core.Path.{_≡_}
-use mathlib.Core.Bool.{true}
+use mathlib.Core.Bool.{Bool, true, false}
+use mathlib.Core.Logic.{_↔_}
 use Prim.Native.Nat.{ℕ, _+_, _-_, _%_, _≤_, _<_}
 use native.Mathlib.Nat.{mul-le-mul-left}
 use native.Mathlib.Omega.{arith}
 use borrow.Author.Tests.{leb-true, eqb-true}
 use lib.Dec.{leb, eqb}
-use Rattle.lists.specs.Choice.{pick}
+use Rattle.lists.specs.Choice.{pick, andThen}
 use Rattle.lists.specs.ChoiceLaws.{and-left, and-right, then-zero, not-refused}
-use Rattle.refusal.specs.Numbers.{PLAN}
+use Rattle.refusal.specs.Numbers.{PLAN, VALUE, ORDER, TOTAL}
 use Rattle.lists.specs.Count.{every}
 use Rattle.lists.specs.CountLaws.{sum-none, sum-more, sum-mono, every-at}
 use Rattle.plan.specs.declared.Plan.{Plan}
 use Rattle.plan.specs.Rates.{rateOk, modulationOk}
 use Rattle.plan.specs.RateLaws.{between}
-use Rattle.plan.specs.Plans.{modulationOf, rateOf, slotsOf, slotsBefore, groupsOk, valuesOk, fallsAfter, planNumber, dataSlotsOf}
+use Rattle.plan.specs.Plans.{modulationOf, rateOf, slotsOf, slotsBefore, groupsOk, valuesOk, fallsAfter, allValuesOk, allFall, totalOk, planOk, planNumber, dataSlotsOf}
 
 pub before-none : (p : Plan) → slotsBefore p 0 ≡ 0
 unfolding slotsBefore
@@ -40,16 +41,65 @@ pub accepted : (p : Plan) → planNumber p ≡ 0 → Accepted p
 unfolding planNumber groupsOk
 accepted p h =
     let a = then-zero (pick (groupsOk p) 0 PLAN) _ h in
-    let b = then-zero (pick (every (p .count) (valuesOk p)) 0 PLAN) _ (a .1) in
-    let c = then-zero (pick (every (p .count - 1) (fallsAfter p)) 0 PLAN) _ (b .1) in
+    let b = then-zero (pick (allValuesOk p) 0 VALUE) _ (a .1) in
+    let c = then-zero (pick (allFall p) 0 ORDER) _ (b .1) in
     let g = between 1 8 (p .count) (not-refused (groupsOk p) PLAN (omega arith) (a .0)) in
     record {
       low = g .low;
       high = g .high;
-      values = not-refused (every (p .count) (valuesOk p)) PLAN (omega arith) (b .0);
-      order = not-refused (every (p .count - 1) (fallsAfter p)) PLAN (omega arith) (c .0);
-      total = eqb-true (slotsBefore p (p .count)) 120 (not-refused (eqb (slotsBefore p (p .count)) 120) PLAN (omega arith) (c .1));
+      values = not-refused (allValuesOk p) VALUE (omega arith) (b .0);
+      order = not-refused (allFall p) ORDER (omega arith) (c .0);
+      total = eqb-true (slotsBefore p (p .count)) 120 (not-refused (totalOk p) TOTAL (omega arith) (c .1));
     }
+
+-- a plan is accepted exactly when it keeps all four rules
+pub plan-ok : (p : Plan) → (planNumber p ≡ 0) ↔ (planOk p ≡ true)
+unfolding planNumber planOk
+plan-ok p = (there, back)
+  where
+    there : planNumber p ≡ 0 → planOk p ≡ true
+    there h =
+        let a = then-zero (pick (groupsOk p) 0 PLAN) _ h in
+        let b = then-zero (pick (allValuesOk p) 0 VALUE) _ (a .1) in
+        let c = then-zero (pick (allFall p) 0 ORDER) _ (b .1) in
+        rw (not-refused (groupsOk p) PLAN (omega arith) (a .0), not-refused (allValuesOk p) VALUE (omega arith) (b .0), not-refused (allFall p) ORDER (omega arith) (c .0))
+        (not-refused (totalOk p) TOTAL (omega arith) (c .1))
+
+    back : planOk p ≡ true → planNumber p ≡ 0
+    back h =
+        let a = and-right (groupsOk p) _ h in
+        let b = and-right (allValuesOk p) _ a in
+        rw (and-left (groupsOk p) _ h, and-left (allValuesOk p) _ a, and-left (allFall p) _ b, and-right (allFall p) _ b)
+
+-- else the first rule that it breaks gives the number
+module _ (p : Plan) where
+  pub wrong-groups : groupsOk p ≡ false → planNumber p ≡ PLAN
+  unfolding planNumber
+  wrong-groups g = rw g
+
+  pub wrong-value : groupsOk p ≡ true → allValuesOk p ≡ false → planNumber p ≡ VALUE
+  unfolding planNumber
+  wrong-value g v = rw (g, v)
+
+  pub wrong-order : groupsOk p ≡ true → allValuesOk p ≡ true → allFall p ≡ false → planNumber p ≡ ORDER
+  unfolding planNumber
+  wrong-order g v o = rw (g, v, o)
+
+  pub wrong-total : groupsOk p ≡ true → allValuesOk p ≡ true → allFall p ≡ true → totalOk p ≡ false → planNumber p ≡ TOTAL
+  unfolding planNumber
+  wrong-total g v o t = rw (g, v, o, t)
+
+-- what holds of 0 and of the four refusals holds of every plan's number
+pub plan-each : (P : ℕ → Type 0) → P 0 → P PLAN → P VALUE → P ORDER → P TOTAL → (p : Plan) → P (planNumber p)
+unfolding planNumber
+plan-each P z g v o t p = before (groupsOk p) g (before (allValuesOk p) v (before (allFall p) o (either (totalOk p) z t)))
+  where
+    either : (b : Bool) {m n : ℕ} → P m → P n → P (pick b m n)
+    either true h k = h
+    either false h k = k
+
+    before : (b : Bool) {m n : ℕ} → P n → P m → P (andThen (pick b 0 n) m)
+    before b {m} {n} h k = either (eqb (pick b 0 n) 0) k (either b z h)
 
 -- the values of a group that is accepted
 pub record Values (m r n : ℕ) : Type 0 where

@@ -1,11 +1,11 @@
--- The slot plan (document 01, "Plan and place"): which plans are accepted.
+-- The slot plan (document 01, "Plan and place"): which plans are accepted, and which rule the others break.
 use mathlib.Core.Bool.{Bool, _&&_, _||_}
 use Prim.Native.Nat.{ℕ, _+_, _-_, _*_, _/_, _%_}
 use lib.Dec.{eqb, ltb, leb}
 use lib.ListN.{getD}
 use Rattle.lists.specs.Choice.{pick, andThen}
 use Rattle.lists.specs.Count.{sum, every}
-use Rattle.refusal.specs.Numbers.{PLAN}
+use Rattle.refusal.specs.Numbers.{PLAN, VALUE, ORDER, TOTAL}
 use Rattle.plan.specs.declared.Plan.{Plan}
 use Rattle.plan.specs.Rates.{rateOk, modulationOk}
 
@@ -37,13 +37,28 @@ fallsAfter p g =
     ltb (modulationOf p (g + 1)) (modulationOf p g)
     || (eqb (modulationOf p (g + 1)) (modulationOf p g) && ltb (rateOf p (g + 1)) (rateOf p g))
 
--- the four tests in their order, each over the whole plan; "the counts add to 120" is the last
+-- the rules of values and of order, each over the whole plan
+abbrev pub allValuesOk : Plan → Bool
+allValuesOk p = every (p .count) (valuesOk p)
+
+abbrev pub allFall : Plan → Bool
+allFall p = every (p .count - 1) (fallsAfter p)
+
+-- "the counts add to 120"
+abbrev pub totalOk : Plan → Bool
+totalOk p = eqb (slotsBefore p (p .count)) 120
+
+-- whether a plan keeps all four rules
+unfoldable pub planOk : Plan → Bool
+planOk p = groupsOk p && (allValuesOk p && (allFall p && totalOk p))
+
+-- document 02, N1: "13 value .., 14 order .., 15 total ..": the first of these rules that does not hold
+abbrev pub ruleNumber : Bool → Bool → Bool → ℕ
+ruleNumber values order total = andThen (pick values 0 VALUE) (andThen (pick order 0 ORDER) (pick total 0 TOTAL))
+
+-- "tested after 1 in that order over the whole plan"
 unfoldable pub planNumber : Plan → ℕ
-planNumber p =
-    andThen (pick (groupsOk p) 0 PLAN)
-    (andThen (pick (every (p .count) (valuesOk p)) 0 PLAN)
-    (andThen (pick (every (p .count - 1) (fallsAfter p)) 0 PLAN)
-    (pick (eqb (slotsBefore p (p .count)) 120) 0 PLAN)))
+planNumber p = andThen (pick (groupsOk p) 0 PLAN) (ruleNumber (allValuesOk p) (allFall p) (totalOk p))
 
 -- "Of a group's n slots the first n × modulation / 5 carry data"
 unfoldable pub dataSlotsOf : Plan → ℕ → ℕ

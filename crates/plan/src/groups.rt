@@ -1,8 +1,7 @@
-// The rules of a plan, as four tests over the whole of it: number of groups, values, order, total.
+// The rules of a plan, each tested over the whole of it: number of groups, values, order, total.
 ghost use mathlib.Core.Path.{_≡_};
-ghost use Prim.Native.Nat.{_+_, _-_, _≤_, _<_};
-ghost use Rattle.lists.specs.Count.{every};
-ghost use Rattle.plan.specs.Plans.{valuesOk, fallsAfter, slotsBefore, planNumber, dataSlotsOf};
+ghost use Prim.Native.Nat.{_+_, _≤_, _<_};
+ghost use Rattle.plan.specs.Plans.{slotsBefore, valuesOk, fallsAfter, allValuesOk, allFall, ruleNumber, planNumber, dataSlotsOf};
 use crate::Plan;
 use crate::rates::MODULATIONS;
 use crate::rates::RATES;
@@ -25,7 +24,7 @@ fn values_ok(plan: Plan, g: usize) -> bool
 
 fn all_values_ok(plan: Plan) -> bool
     requires { ⌜ plan .count ≤ 8 ⌝ }
-    ensures { λ r. ⌜ r ≡ every (plan .count) (valuesOk plan) ⌝ }
+    ensures { λ r. ⌜ r ≡ allValuesOk plan ⌝ }
 {
     let count = lists::index(plan.count);
     let mut g: usize = 0;
@@ -59,7 +58,7 @@ fn falls_after(plan: Plan, g: usize) -> bool
 
 fn all_fall(plan: Plan) -> bool
     requires { ⌜ plan .count ≤ 8 ⌝ }
-    ensures { λ r. ⌜ r ≡ every (plan .count - 1) (fallsAfter plan) ⌝ }
+    ensures { λ r. ⌜ r ≡ allFall plan ⌝ }
 {
     let count = lists::index(plan.count);
     let mut g: usize = 0;
@@ -96,21 +95,31 @@ fn total(plan: Plan) -> usize
     sum
 }
 
-// The plan's number: 0, or the refusal of the first test that fails.
+// The number of the first of these rules that does not hold.
+fn rule_number(values: bool, order: bool, whole: bool) -> u8
+    ensures { λ r. ⌜ r ≡ ruleNumber values order whole ⌝ }
+{
+    if values {
+        if order {
+            if whole {
+                return 0;
+            }
+            return refusal::TOTAL;
+        }
+        return refusal::ORDER;
+    }
+    refusal::VALUE
+}
+
+// The plan's number: 0, or the refusal of the first rule that it breaks.
 pub fn plan_number(plan: Plan) -> u8
     ensures { λ r. ⌜ r ≡ planNumber plan ⌝ }
 {
     if known(plan.count, 8) {
-        if all_values_ok(plan) {
-            if all_fall(plan) {
-                if total(plan) == 120 {
-                    return 0;
-                }
-                return refusal::PLAN;
-            }
-            return refusal::PLAN;
-        }
-        return refusal::PLAN;
+        let values = all_values_ok(plan);
+        let order = all_fall(plan);
+        let whole = total(plan) == 120;
+        return rule_number(values, order, whole);
     }
     refusal::PLAN
 }

@@ -1,7 +1,7 @@
--- Document 01, "Refusal list": the number of each word. 0 is accepted.
+-- Document 01, "Refusal list", as document 02 amends it: the number of each word. 0 is accepted.
 use Prim.Native.Nat.{ℕ}
 
--- "breaks a rule above; in a lone call, modulation or rate unknown"
+-- 02, N1: "a wrong number of groups, slot number 0 or unreadable text, and in lone calls"; there, "modulation or rate unknown"
 abbrev pub PLAN : ℕ
 PLAN = 1
 
@@ -48,3 +48,15 @@ TAIL = 11
 -- "a symbol is 2^modulation or more"
 abbrev pub LABEL : ℕ
 LABEL = 12
+
+-- 02, N1: "unknown modulation or rate, or a count that is 0 or no multiple of 5"
+abbrev pub VALUE : ℕ
+VALUE = 13
+
+-- 02, N1: "groups not falling"
+abbrev pub ORDER : ℕ
+ORDER = 14
+
+-- 02, N1: "not 120"
+abbrev pub TOTAL : ℕ
+TOTAL = 15

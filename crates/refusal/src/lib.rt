@@ -1,4 +1,4 @@
-// The refusal numbers of document 01, by its words.
+// The refusal numbers of documents 01 and 02, by their words.
 pub const PLAN: u8 = 1;
 
 pub const DUMMY: u8 = 2;
@@ -22,3 +22,9 @@ pub const STUFF: u8 = 10;
 pub const TAIL: u8 = 11;
 
 pub const LABEL: u8 = 12;
+
+pub const VALUE: u8 = 13;
+
+pub const ORDER: u8 = 14;
+
+pub const TOTAL: u8 = 15;

@@ -1,21 +1,20 @@
 -- Coding and then reading a slot, and reading and then coding one: over the definitions of a slot, and over the calls
 -- with their numbers, states and areas. Reading answers 0 exactly when all three checks hold. The state after a slot is
 -- the same whether it was coded or read, read well or not, and it is sound for the next call.
-use mathlib.Core.Path.{_≡_, sym, ap, ap₂, _∙_}
-use mathlib.Core.Bool.{Bool, true, false, _&&_}
+use mathlib.Core.Path.{_≡_, refl, sym, ap, ap₂, _∙_}
+use mathlib.Core.Bool.{Bool, true, false, _&&_, _||_, false≢true}
 use mathlib.Core.List.{List}
 use mathlib.Core.Logic.{_↔_, inl, inr}
-use Prim.Native.Nat.{ℕ, _-_, _<_}
+use Prim.Native.Nat.{ℕ}
 use native.Mathlib.Decide.{ℕ-discrete}
 use native.Mathlib.Omega.{arith}
 use borrow.Author.Tests.{eq-eqb}
-use lib.Dec.{eqb, leb}
+use lib.Dec.{eqb, leb, ltb}
 use lib.ListN.{length}
 use Rattle.lists.specs.Runs.{Octets}
 use Rattle.lists.specs.Choice.{pick, andThen}
 use Rattle.lists.specs.ChoiceLaws.{then-zero, then-next, then-first, then-both}
-use Rattle.lists.specs.Count.{every}
-use Rattle.refusal.specs.Numbers.{PLAN, DUMMY, FULL, LENGTH, TABLE, REGISTER, PARITY}
+use Rattle.refusal.specs.Numbers.{PLAN, DUMMY, FULL, LENGTH, TABLE, REGISTER, PARITY, STUFF, VALUE, ORDER, TOTAL}
 use Rattle.bits.specs.Octets.{bitsOf}
 use Rattle.bits.specs.OctetLaws.{octets-bits}
 use Rattle.dispersal.specs.Register.{registerOk, settingsOk}
@@ -23,9 +22,8 @@ use Rattle.dispersal.specs.RegisterLaws.{after-ok}
 use Rattle.parity_table.specs.Tables.{tableOk}
 use Rattle.plan.specs.Records.{planIn}
 use Rattle.plan.specs.RateLaws.{Rows}
-use Rattle.plan.specs.declared.Plan.{Plan}
 use Rattle.plan.specs.declared.FrameState.{FrameState}
-use Rattle.plan.specs.Plans.{groupsOk, valuesOk, fallsAfter, slotsBefore, planNumber}
+use Rattle.plan.specs.PlanLaws.{plan-each}
 use Rattle.plan.specs.Places.{carries}
 use Rattle.plan.specs.Sizes.{slotOctets, slotWidth}
 use Rattle.plan.specs.States.{soundNumber, stateNumber}
@@ -90,11 +88,14 @@ read-good s t coded source h =
 abbrev Earlier : ℕ → Type 0
 Earlier n = MovesOn n → n ≡ 0
 
-earlier : (n : ℕ) → n < PARITY → Earlier n
+abbrev beside : ℕ → Bool
+beside n = ltb n PARITY || ltb STUFF n
+
+earlier : (n : ℕ) → beside n ≡ true → Earlier n
 earlier n h (inl e) = e
-earlier n h (inr (inl e)) = absurd (omega arith)
-earlier n h (inr (inr (inl e))) = absurd (omega arith)
-earlier n h (inr (inr (inr e))) = absurd (omega arith)
+earlier n h (inr (inl e)) = absurd (false≢true (rw e at h))
+earlier n h (inr (inr (inl e))) = absurd (false≢true (rw e at h))
+earlier n h (inr (inr (inr e))) = absurd (false≢true (rw e at h))
 
 earlier-pick : (b : Bool) {m n : ℕ} → Earlier m → Earlier n → Earlier (pick b m n)
 earlier-pick true h k = h
@@ -103,35 +104,26 @@ earlier-pick false h k = k
 earlier-then : {a b : ℕ} → Earlier a → Earlier b → Earlier (andThen a b)
 earlier-then {a} h k = earlier-pick (eqb a 0) k h
 
-earlier-test : (b : Bool) (n : ℕ) → n < PARITY → Earlier (pick b 0 n)
-earlier-test b n h = earlier-pick b (earlier 0 (omega arith)) (earlier n h)
-
-plan-earlier : (p : Plan) → Earlier (planNumber p)
-unfolding planNumber
-plan-earlier p =
-    let one : (b : Bool) → Earlier (pick b 0 PLAN) = λ b. earlier-test b PLAN (omega arith) in
-    earlier-then (one (groupsOk p))
-    (earlier-then (one (every (p .count) (valuesOk p)))
-    (earlier-then (one (every (p .count - 1) (fallsAfter p)))
-    (one (eqb (slotsBefore p (p .count)) 120))))
+earlier-test : (b : Bool) (n : ℕ) → beside n ≡ true → Earlier (pick b 0 n)
+earlier-test b n h = earlier-pick b (earlier 0 refl) (earlier n h)
 
 state-earlier : (s : FrameState) → Earlier (stateNumber s)
 unfolding stateNumber soundNumber
 state-earlier s =
     earlier-then
-    (earlier-then (earlier-pick (eqb (s .slot) 0) (earlier PLAN (omega arith)) (earlier 0 (omega arith)))
-    (earlier-then (plan-earlier (planIn s))
-    (earlier-test (settingsOk slotWidth (s .mask) (s .start) && registerOk slotWidth (s .register)) REGISTER (omega arith))))
-    (earlier-test (leb (s .slot) 120) FULL (omega arith))
+    (earlier-then (earlier-pick (eqb (s .slot) 0) (earlier PLAN refl) (earlier 0 refl))
+    (earlier-then (plan-each Earlier (earlier 0 refl) (earlier PLAN refl) (earlier VALUE refl) (earlier ORDER refl) (earlier TOTAL refl) (planIn s))
+    (earlier-test (settingsOk slotWidth (s .mask) (s .start) && registerOk slotWidth (s .register)) REGISTER refl)))
+    (earlier-test (leb (s .slot) 120) FULL refl)
 
 slot-earlier : (s : FrameState) (t source coded : List ℕ) → Earlier (slotNumber s t source coded)
 unfolding slotNumber dataNumber wordLentNumber
 slot-earlier s t source coded =
     earlier-then
-    (earlier-then (state-earlier s) (earlier-test (carries (planIn s) (s .slot)) DUMMY (omega arith)))
+    (earlier-then (state-earlier s) (earlier-test (carries (planIn s) (s .slot)) DUMMY refl))
     (earlier-then
-    (earlier-test (eqb (length source) (sourceOctets (rowsAt s)) && eqb (length coded) slotOctets) LENGTH (omega arith))
-    (earlier-test (tableOk (rowsAt s) t) TABLE (omega arith)))
+    (earlier-test (eqb (length source) (sourceOctets (rowsAt s)) && eqb (length coded) slotOctets) LENGTH refl)
+    (earlier-test (tableOk (rowsAt s) t) TABLE refl))
 
 -- a reading that moves on is one that was refused for nothing before the slot itself was read
 pub read-moves : (s : FrameState) (t coded source : List ℕ) → MovesOn (readAnswer s t coded source .number) ↔ (slotNumber s t source coded ≡ 0)

@@ -1,4 +1,4 @@
-// The cases that document 01 works by hand and does not have proved, and 32APSK at 7/9: each line says what a call answered.
+// Cases that documents 01 and 02 work by hand, and 32APSK at 7/9: each line says what a call answered.
 mod labels;
 mod lines;
 mod plans;

@@ -1,4 +1,4 @@
-// "Counts 115 + 5 accepted, 115 alone refused 1, 116 + 4 refused 1. Nine groups 1. Mask 2^25 refused 6."
+// "Counts 115 + 5 accepted .. Nine groups 1. Mask 2^25 refused 6", and of document 02 "115 alone is now 15, and 116 + 4 is 13".
 use crate::lines::line;
 use plan::Plan;
 use test_samples::MASK;

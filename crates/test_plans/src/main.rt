@@ -1,4 +1,4 @@
-// Cases of document 01 around plans: texts that plan-list reads or refuses, and openings and passes.
+// Cases of documents 01 and 02 around plans: texts that plan-list reads or refuses, and openings and passes.
 mod states;
 mod texts;
 

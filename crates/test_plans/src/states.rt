@@ -29,9 +29,10 @@ fn example() -> Plan {
     )
 }
 
-fn nine_groups() -> Plan {
+// The first groups of the example, so many.
+fn groups(count: u16) -> Plan {
     let mut plan = example();
-    plan.count = 9;
+    plan.count = count;
     plan
 }
 
@@ -42,9 +43,10 @@ fn opening(name: &[u8], mask: u32, start: u32) {
 
 fn openings() {
     opening(b"open", 16777216, 1);
+    show(b"open with nine groups", plan::open(groups(9), 16777216, 1));
     show(
-        b"open with nine groups",
-        plan::open(nine_groups(), 16777216, 1),
+        b"open with 115 slots and start 0",
+        plan::open(groups(1), 16777216, 0),
     );
     opening(b"open with mask 2^25", 33554432, 1);
     opening(b"open with mask 2^25 - 1", 33554431, 1);
@@ -83,6 +85,20 @@ fn passing(name: &[u8], slot: u16, register: u32) {
     show(name, plan::pass(state_at(slot, register)));
 }
 
+// A state of 115 slots, whose total is wrong.
+fn wrong_plan(name: &[u8], slot: u16, register: u32) {
+    show(
+        name,
+        plan::pass(plan::state_at(groups(1), 16777216, 1, slot, register)),
+    );
+}
+
+fn wrong_plans() {
+    wrong_plan(b"pass in 115 slots", 93, 5);
+    wrong_plan(b"pass in 115 slots with register 0", 93, 0);
+    wrong_plan(b"pass at slot 0 in 115 slots", 0, 5);
+}
+
 fn wrong_registers() {
     passing(b"pass with register 0", 93, 0);
     passing(b"pass with register 2^25", 93, 33554432);
@@ -92,5 +108,6 @@ fn wrong_registers() {
 pub fn run() {
     openings();
     passes();
+    wrong_plans();
     wrong_registers();
 }

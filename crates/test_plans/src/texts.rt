@@ -51,6 +51,7 @@ fn too_long() {
 
 fn refused_plans() {
     show(b"a count of 995:1 1 995\n");
+    show(b"a count of 996:1 1 996\n");
     show(b"a count of 0:2 1 120\n1 1 0\n");
     show(b"115 alone:1 1 115\n");
     show(b"116 and 4:2 1 116\n1 1 4\n");
@@ -58,6 +59,25 @@ fn refused_plans() {
     show(b"rate 12:1 12 120\n");
     show(b"groups that rise:1 1 60\n2 1 60\n");
     show(b"equal groups:1 1 60\n1 1 60\n");
+    show(b"rate 12 in the last group:2 1 60\n1 12 60\n");
+    show(b"the last groups rise:5 1 40\n1 1 40\n2 1 40\n");
+}
+
+// Texts and plans that are wrong in two ways: the first rule that is broken gives the number.
+fn wrong_twice() {
+    show(b"a leading zero and rate 12:1 12 0120\n");
+    show(
+        b"nine lines and rate 12:5 12 10\n5 11 10\n5 10 10\n5 9 10\n5 8 10\n5 7 10\n5 6 10\n5 5 10\n5 4 40\n",
+    );
+    show(
+        b"nine lines that rise:5 1 10\n5 2 10\n5 3 10\n5 4 10\n5 5 10\n5 6 10\n5 7 10\n5 8 10\n5 9 40\n",
+    );
+    show(
+        b"nine lines and 125 slots:5 9 10\n5 8 10\n5 7 10\n5 6 10\n5 5 10\n5 4 10\n5 3 10\n5 2 10\n5 1 45\n",
+    );
+    show(b"4 and 116 that rise:1 1 4\n2 1 116\n");
+    show(b"rate 12 and 115 slots:1 12 115\n");
+    show(b"groups that rise and 115 slots:1 1 5\n2 1 110\n");
 }
 
 fn accepted_plans() {
@@ -70,5 +90,6 @@ pub fn run() {
     unreadable();
     too_long();
     refused_plans();
+    wrong_twice();
     accepted_plans();
 }

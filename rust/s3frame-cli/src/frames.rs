@@ -1,7 +1,7 @@
 //! What coding and reading frames share: the plan's places, their tables, and the state at slot 1.
 use crate::failure::Failure;
 use crate::files::{Content, Files};
-use crate::plan_text::{octets_of, MOST_OCTETS};
+use crate::plan_text::{lines_at_fault, octets_of, MOST_OCTETS};
 use crate::words::SettingWords;
 use s3frame::{FrameState, Place, Plan, Refusal, SlotSettings, SLOTS};
 use std::path::Path;
@@ -12,8 +12,8 @@ pub fn read_plan(files: &mut Files, word: &Path) -> Result<Plan, Failure> {
     let mut text = [0; MOST_OCTETS + 1];
     let length = input.fill(&mut text)?;
     let octets = octets_of(&text[..length]).map_err(|wrong| Failure::refused(input.name(), Refusal::Plan, wrong))?;
-    let rule = "its groups break a rule that `s3frame plan --help` lists";
-    Plan::of_octets(&octets).map_err(|refusal| Failure::refused(input.name(), refusal, rule))
+    let refused = |refusal| Failure::new(input.name(), format!("{refusal}{}", lines_at_fault(&octets, refusal)));
+    Plan::of_octets(&octets).map_err(refused)
 }
 
 /// The places of a plan's slots, slot 1 first.

@@ -23,7 +23,15 @@ PLAN
 
   Higher modulations come first and, within one, higher rates; no two lines have both alike.
   Numbers have 1 to 3 digits and no leading zeros. One space stands between them, a line feed
-  after each line. The text has 128 octets at most.";
+  after each line. The text has 128 octets at most.
+
+  These rules are tested in their order, each over all lines; the first that is broken refuses
+  the plan:
+
+   1 plan   no lines, more than 8, or a text of another form
+  13 value  an unknown modulation or rate, or slots that are 0 or no multiple of 5
+  14 order  lines that do not fall
+  15 total  slots that do not add to 120";
 
 const FRAME_FORM: &str = "\
 FILES

@@ -1,4 +1,4 @@
-//! The calls of the archive as they stand: numbers and slices in, document 01's number out, 0 where the call is accepted.
+//! The calls of the archive as they stand: numbers and slices in, the refusal's number out, 0 where the call is accepted.
 //!
 //! All of this crate's `unsafe` is here. A slice goes over as its pointer and then its length, each a parameter of its own.
 //! The functions behind are proved for every input: they read and write within the slices that they are lent, keep none of
@@ -176,18 +176,18 @@ pub struct At<'a> {
     pub register: u32,
 }
 
-/// Opens a frame. A refusal writes two zeros into a `next` of two numbers. Numbers: 1, 6, 4.
+/// Opens a frame. A refusal writes two zeros into a `next` of two numbers. Numbers: 1, 13, 14, 15, 6, 4.
 pub fn open(plan: &[u8], mask: u32, start: u32, next: &mut [u32]) -> u32 {
     unsafe { s3_open(plan.as_ptr(), plan.len(), mask, start, next.as_mut_ptr(), next.len()) }
 }
 
-/// Passes a dummy. Numbers: 1, 6, 3, 2, 4.
+/// Passes a dummy. Numbers: 1, 13, 14, 15, 6, 3, 2, 4.
 pub fn pass(at: At, next: &mut [u32]) -> u32 {
     let At { plan, mask, start, slot, register } = at;
     unsafe { s3_pass(plan.as_ptr(), plan.len(), mask, start, slot, register, next.as_mut_ptr(), next.len()) }
 }
 
-/// Codes a slot. Numbers: 1, 6, 3, 2, 4, 5.
+/// Codes a slot. Numbers: 1, 13, 14, 15, 6, 3, 2, 4, 5.
 pub fn code_slot(at: At, table: &[u16], source: &[u8], coded: &mut [u8], next: &mut [u32]) -> u32 {
     let At { plan, mask, start, slot, register } = at;
     unsafe {
@@ -210,7 +210,7 @@ pub fn code_slot(at: At, table: &[u16], source: &[u8], coded: &mut [u8], next: &
     }
 }
 
-/// Reads a slot; 8, 9 and 10 move on. Numbers: 1, 6, 3, 2, 4, 5, 8, 9, 10.
+/// Reads a slot; 8, 9 and 10 move on. Numbers: 1, 13, 14, 15, 6, 3, 2, 4, 5, 8, 9, 10.
 pub fn read_slot(at: At, table: &[u16], coded: &[u8], source: &mut [u8], next: &mut [u32]) -> u32 {
     let At { plan, mask, start, slot, register } = at;
     unsafe {
@@ -233,7 +233,7 @@ pub fn read_slot(at: At, table: &[u16], coded: &[u8], source: &mut [u8], next: &
     }
 }
 
-/// Codes a slot from header and packets. Numbers: 1, 6, 3, 2, 4 (packets), 7, 4 (the others), 5.
+/// Codes a slot from header and packets. Numbers: 1, 13, 14, 15, 6, 3, 2, 4 (packets), 7, 4 (the others), 5.
 pub fn code_packets(at: At, table: &[u16], header: &[u8], packets: &[u8], coded: &mut [u8], next: &mut [u32]) -> u32 {
     let At { plan, mask, start, slot, register } = at;
     unsafe {
@@ -258,7 +258,7 @@ pub fn code_packets(at: At, table: &[u16], header: &[u8], packets: &[u8], coded:
     }
 }
 
-/// Reads a slot into header and packets; 8, 9 and 10 move on. Numbers: 1, 6, 3, 2, 4, 5, 8, 9, 10.
+/// Reads a slot into header and packets; 8, 9 and 10 move on. Numbers: 1, 13, 14, 15, 6, 3, 2, 4, 5, 8, 9, 10.
 pub fn read_packets(
     at: At,
     table: &[u16],
@@ -295,7 +295,7 @@ pub fn check_parity(rate: u32, table: &[u16], coded: &[u8]) -> u32 {
     unsafe { s3_check_parity(rate, table.as_ptr(), table.len(), coded.as_ptr(), coded.len()) }
 }
 
-/// Codes a whole frame. Numbers: 1, 6, 4, 5.
+/// Codes a whole frame. Numbers: 1, 13, 14, 15, 6, 4, 5.
 pub fn code_frame(plan: &[u8], mask: u32, start: u32, tables: &[u16], source: &[u8], frame: &mut [u8]) -> u32 {
     unsafe {
         s3_code_frame(
@@ -313,7 +313,7 @@ pub fn code_frame(plan: &[u8], mask: u32, start: u32, tables: &[u16], source: &[
     }
 }
 
-/// Reads a whole frame. Numbers: 1, 6, 4, 5.
+/// Reads a whole frame. Numbers: 1, 13, 14, 15, 6, 4, 5.
 pub fn read_frame(
     plan: &[u8],
     mask: u32,
@@ -428,13 +428,13 @@ pub fn tables_entries(plan: &[u8]) -> u64 {
     unsafe { s3_tables_entries(plan.as_ptr(), plan.len()) }
 }
 
-/// Copies the published tables of a plan's groups, in group order. Numbers: 1, 4.
+/// Copies the published tables of a plan's groups, in group order. Numbers: 1, 13, 14, 15, 4.
 pub fn published_tables(plan: &[u8], tables: &mut [u16]) -> u32 {
     unsafe { s3_published_tables(plan.as_ptr(), plan.len(), tables.as_mut_ptr(), tables.len()) }
 }
 
 /// What a slot is, as four numbers: its group from 0, the modulation, the rate, and 1 where it carries data. A refusal writes
-/// zeros into a `place` of four numbers. Numbers: 1, 3, 4.
+/// zeros into a `place` of four numbers. Numbers: 1, 13, 14, 15, 3, 4.
 pub fn place(plan: &[u8], slot: u32, place: &mut [u32]) -> u32 {
     unsafe { s3_place(plan.as_ptr(), plan.len(), slot, place.as_mut_ptr(), place.len()) }
 }

@@ -1,4 +1,4 @@
-//! Enums whose cases have document 01's numbers.
+//! Enums whose cases have the documents' numbers.
 
 /// Makes an enum of cases with their numbers and texts: all of them, the way to the number and back, and the texts.
 macro_rules! numbered {
@@ -19,7 +19,7 @@ macro_rules! numbered {
                 $kind::ALL.into_iter().find(|one| one.number() == number)
             }
 
-            /// Document 01's number, from 1 on.
+            /// Its number, from 1 on.
             pub const fn number(self) -> u32 {
                 self as u32
             }

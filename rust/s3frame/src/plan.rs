@@ -39,7 +39,8 @@ pub struct Plan {
 impl Plan {
     /// The plan of these groups.
     ///
-    /// Refused: [`Refusal::Plan`].
+    /// Refused, by the first rule that is broken: [`Refusal::Plan`] (no groups, or more than 8), [`Refusal::Value`],
+    /// [`Refusal::Order`], [`Refusal::Total`].
     pub fn new(groups: &[Group]) -> Result<Plan, Refusal> {
         let three = |group: &Group| [group.modulation as u8, group.rate as u8, group.slots];
         Plan::of_octets(&groups.iter().flat_map(three).collect::<Vec<u8>>())
@@ -47,7 +48,7 @@ impl Plan {
 
     /// The plan of three octets for each group: modulation, rate and slots. Any octets may be given: the library decides.
     ///
-    /// Refused: [`Refusal::Plan`].
+    /// Refused as [`Plan::new`] is; octets that end within a group are [`Refusal::Plan`].
     pub fn of_octets(octets: &[u8]) -> Result<Plan, Refusal> {
         // Every accepted plan has a slot 1, so that asking for its place asks of the plan alone.
         place(octets, 1)?;
@@ -136,11 +137,22 @@ mod tests {
         let group = |rate: &Rate| Group { modulation: Modulation::Bpsk, rate: *rate, slots: 10 };
         let nine: Vec<Group> = Rate::ALL[..9].iter().rev().map(group).collect();
         let rising = [WORKED[1], WORKED[0]];
-        for groups in [&[][..], &WORKED[..1], &rising, &nine[..8], &nine] {
-            assert_eq!(Plan::new(groups), Err(Refusal::Plan));
+        let no_fives = [Group { slots: 116, ..WORKED[0] }, Group { slots: 4, ..WORKED[1] }];
+        for (groups, refusal) in [
+            (&[][..], Refusal::Plan),
+            (&nine, Refusal::Plan),
+            (&no_fives, Refusal::Value),
+            (&rising, Refusal::Order),
+            (&WORKED[..1], Refusal::Total),
+            (&nine[..8], Refusal::Total),
+        ] {
+            assert_eq!(Plan::new(groups), Err(refusal));
         }
-        for octets in [&[5, 11][..], &[5, 11, 120, 0], &[6, 11, 120], &[5, 12, 120], &[0; 27]] {
+        for octets in [&[5, 11][..], &[5, 11, 120, 0], &[0; 27]] {
             assert_eq!(Plan::of_octets(octets), Err(Refusal::Plan));
+        }
+        for octets in [[6, 11, 120], [5, 12, 120], [0; 3]] {
+            assert_eq!(Plan::of_octets(&octets), Err(Refusal::Value));
         }
     }
 

@@ -1,13 +1,13 @@
-//! Document 01's refusals.
+//! The refusals of documents 01 and 02.
 use crate::numbered::numbered;
 use std::error::Error;
 use std::fmt;
 
 numbered! {
-    /// Why a call was refused: document 01's twelve words, with its numbers.
+    /// Why a call was refused: the words of documents 01 and 02, with their numbers.
     #[non_exhaustive]
     Refusal {
-        Plan = 1 "the plan breaks a rule, or the slot number is 0",
+        Plan = 1 "the plan has no groups or more than 8, or the slot number is 0",
         Dummy = 2 "a data call at a dummy, or a pass at a data slot",
         Full = 3 "slot 120 is past",
         Length = 4 "a lent area isn't exactly its length",
@@ -19,11 +19,14 @@ numbered! {
         Stuff = 10 "stuff bits are not all ones after dispersal is taken off",
         Tail = 11 "one of the last two TMCC bits is 1",
         Label = 12 "a symbol is 2^modulation or more",
+        Value = 13 "a group's modulation or rate is unknown, or its slots are 0 or no multiple of 5",
+        Order = 14 "the groups do not fall: higher modulations come first and, within one, higher rates",
+        Total = 15 "the slots of all groups do not add to 120",
     }
 }
 
 impl Refusal {
-    /// Document 01's word.
+    /// Its word.
     pub fn word(self) -> &'static str {
         match self {
             Refusal::Plan => "plan",
@@ -38,6 +41,9 @@ impl Refusal {
             Refusal::Stuff => "stuff",
             Refusal::Tail => "tail",
             Refusal::Label => "label",
+            Refusal::Value => "value",
+            Refusal::Order => "order",
+            Refusal::Total => "total",
         }
     }
 }
@@ -51,11 +57,11 @@ impl fmt::Display for Refusal {
 
 impl Error for Refusal {}
 
-/// The result of a call's number. The contracts of the calls allow no number above 12.
+/// The result of a call's number. The contracts of the calls allow no other numbers.
 pub(crate) fn answer(number: u32) -> Result<(), Refusal> {
     match number {
         0 => Ok(()),
-        _ => Err(Refusal::from_number(number).expect("a number of document 01")),
+        _ => Err(Refusal::from_number(number).expect("a refusal's number")),
     }
 }
 
@@ -64,16 +70,16 @@ mod tests {
     use super::*;
 
     #[test]
-    fn the_numbers_and_words_of_document_01() {
-        let words =
-            ["plan", "dummy", "full", "length", "table", "register", "sync", "parity", "BCH", "stuff", "tail", "label"];
+    fn the_numbers_and_words_of_the_documents() {
+        let words = "plan dummy full length table register sync parity BCH stuff tail label value order total";
+        let words: Vec<&str> = words.split(' ').collect();
         assert_eq!(words.len(), Refusal::ALL.len());
         for (number, word) in (1..).zip(words) {
             let refusal = Refusal::from_number(number).expect("a refusal");
             assert_eq!((refusal.number(), refusal.word()), (number, word));
             assert_eq!(answer(number), Err(refusal));
         }
-        assert_eq!([Refusal::from_number(0), Refusal::from_number(13)], [None, None]);
+        assert_eq!([Refusal::from_number(0), Refusal::from_number(16)], [None, None]);
         assert_eq!(answer(0), Ok(()));
     }
 

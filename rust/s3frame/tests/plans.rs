@@ -43,12 +43,29 @@ fn plans_of_chance() {
     }
 }
 
+/// The rules behind the number of groups that a plan breaks, by their refusals.
+fn broken(plan: &[u8]) -> Vec<u8> {
+    let wrong = |group: &[u8]| {
+        !(1..=5).contains(&group[0]) || !(1..=11).contains(&group[1]) || group[2] == 0 || group[2] % 5 != 0
+    };
+    let groups: Vec<&[u8]> = plan.chunks(3).collect();
+    let value = groups.iter().any(|group| wrong(group));
+    let order = groups.windows(2).any(|two| two[0][..2] <= two[1][..2]);
+    let total = groups.iter().map(|group| u32::from(group[2])).sum::<u32>() != 120;
+    [(13, value), (14, order), (15, total)].into_iter().filter(|rule| rule.1).map(|rule| rule.0).collect()
+}
+
 #[test]
-fn broken_plans_are_refused() {
+fn broken_plans_are_refused_by_the_first_rule() {
     let mut random = Random::new(72);
-    for _ in 0..trials(500) {
+    for faults in faults::plan_choices(&[], trials(60)) {
         let mut octets = random.plan().octets().to_vec();
-        faults::break_plan(&mut random, &mut octets);
-        assert_eq!(Plan::of_octets(&octets), Err(Refusal::Plan), "plan {octets:?}");
+        faults::break_plan(&mut random, &faults, &mut octets);
+        let number = Plan::of_octets(&octets).err().map_or(0, Refusal::number);
+        assert_eq!(number, u32::from(faults.first()), "plan {octets:?}");
+        if !faults.has(1) {
+            let asked = [13, 14, 15].into_iter().filter(|&number| faults.has(number));
+            assert!(asked.eq(broken(&octets)), "plan {octets:?} breaks the rules asked for, and no others");
+        }
     }
 }

@@ -21,10 +21,12 @@ pub struct State<'a> {
 impl State<'_> {
     /// The place of the next slot, or the first refusal that holds of the state itself.
     fn place(&self) -> Result<Place, u8> {
+        if self.slot == 0 {
+            return Err(PLAN_WRONG);
+        }
+        plan::accept(self.plan)?;
         let register_allowed = |register| allowed(slot::WIDTH, self.mask, register);
-        if self.slot == 0 || plan::refusal(self.plan) != 0 {
-            Err(PLAN_WRONG)
-        } else if !register_allowed(self.start) || !register_allowed(self.register) {
+        if !register_allowed(self.start) || !register_allowed(self.register) {
             Err(REGISTER_WRONG)
         } else if self.slot as usize > SLOTS {
             Err(FULL)
@@ -73,7 +75,7 @@ pub fn published_table(rate: usize, table: &mut [u16]) -> u8 {
 
 /// Copies the printed tables of a plan's groups, in group order.
 pub fn published_tables(plan: &[Group], tables: &mut [u16]) -> u8 {
-    number(accepted(plan::refusal(plan)).and_then(|()| {
+    number(plan::accept(plan).and_then(|()| {
         let rates = plan.iter().map(|group| group.rate);
         accepted(tables::copy(rates, tables))
     }))
@@ -81,10 +83,9 @@ pub fn published_tables(plan: &[Group], tables: &mut [u16]) -> u8 {
 
 /// What a slot is: its group from 0, the group's modulation and rate, and 1 where it carries data. A refusal writes zeros.
 pub fn place(plan: &[Group], slot: u32, place: &mut [u32]) -> u8 {
-    let found = if slot == 0 || plan::refusal(plan) != 0 {
-        Err(PLAN_WRONG)
-    } else {
-        plan::places(plan).get(slot as usize - 1).copied().ok_or(FULL)
+    let found = match slot.checked_sub(1) {
+        None => Err(PLAN_WRONG),
+        Some(before) => plan::accept(plan).and_then(|()| plan::places(plan).get(before as usize).copied().ok_or(FULL)),
     };
     if place.len() != 4 {
         return found.err().unwrap_or(LENGTH_WRONG);
@@ -96,8 +97,8 @@ pub fn place(plan: &[Group], slot: u32, place: &mut [u32]) -> u8 {
 
 /// Opens a frame at slot 1 with the register at its start. The state of a refused opening is all zeros.
 pub fn open(plan: &[Group], mask: u32, start: u32, next: &mut [u32]) -> u8 {
-    let number = if plan::refusal(plan) != 0 {
-        PLAN_WRONG
+    let number = if let Err(refused) = plan::accept(plan) {
+        refused
     } else if !allowed(slot::WIDTH, mask, start) {
         REGISTER_WRONG
     } else if next.len() != 2 {
@@ -210,19 +211,21 @@ mod tests {
         let mut next = [7, 7];
         assert_eq!((open(&good, MASK, START, &mut next), next), (0, [1, START]));
         assert_eq!((open(&good, MASK, 0, &mut next), next), (6, [0, 0]));
-        assert_eq!((open(&good[..1], MASK, 0, &mut next), next), (1, [0, 0]));
+        assert_eq!((open(&good[..1], MASK, 0, &mut next), next), (15, [0, 0]));
+        assert_eq!((open(&[], MASK, 0, &mut next), next), (1, [0, 0]));
         assert_eq!(open(&good, MASK, START, &mut []), 4);
     }
 
     #[test]
     fn a_pass_moves_on_at_a_dummy_alone() {
         let plan = plan::plan(&[(4, 7, 115), (2, 3, 5)]);
-        let passed = |slot| {
+        let passed = |plan, slot| {
             let mut next = [7, 7];
-            (pass(&state(&plan, slot, 9), &mut next), next)
+            (pass(&state(plan, slot, 9), &mut next), next)
         };
-        assert_eq!([passed(0), passed(92), passed(116)], [(1, [7, 7]), (2, [7, 7]), (2, [7, 7])]);
-        assert_eq!([passed(93), passed(120), passed(121)], [(0, [94, 9]), (0, [121, 9]), (3, [7, 7])]);
+        assert_eq!([0, 92, 116].map(|slot| passed(&plan, slot)), [(1, [7, 7]), (2, [7, 7]), (2, [7, 7])]);
+        assert_eq!([93, 120, 121].map(|slot| passed(&plan, slot)), [(0, [94, 9]), (0, [121, 9]), (3, [7, 7])]);
+        assert_eq!([0, 93].map(|slot| passed(&plan[..1], slot)), [(1, [7, 7]), (15, [7, 7])]);
     }
 
     #[test]
@@ -235,7 +238,8 @@ mod tests {
         assert_eq!([placed(&groups, 92), placed(&groups, 93)], [(0, [0, 4, 7, 1]), (0, [0, 4, 7, 0])]);
         assert_eq!([placed(&groups, 117), placed(&groups, 120)], [(0, [1, 2, 3, 1]), (0, [1, 2, 3, 0])]);
         assert_eq!([placed(&groups, 0), placed(&groups, 121)], [(1, [0; 4]), (3, [0; 4])]);
-        assert_eq!([placed(&groups[..1], 1), placed(&groups[..1], 121)], [(1, [0; 4]); 2]);
+        assert_eq!([placed(&groups[..1], 1), placed(&groups[..1], 121)], [(15, [0; 4]); 2]);
+        assert_eq!(placed(&groups[..1], 0), (1, [0; 4]));
         let mut five = [7; 5];
         assert_eq!([0, 1, 121].map(|slot| place(&groups, slot, &mut five)), [1, 4, 3]);
         assert_eq!(five, [7; 5]);
@@ -247,7 +251,7 @@ mod tests {
         let mut tables = vec![0; 471 + 356];
         assert_eq!(published_tables(&groups, &mut tables), 0);
         assert_eq!(tables, printed([7, 3]));
-        assert_eq!([published_tables(&groups, &mut tables[1..]), published_tables(&groups[..1], &mut [])], [4, 1]);
+        assert_eq!([published_tables(&groups, &mut tables[1..]), published_tables(&groups[..1], &mut [])], [4, 15]);
         assert_eq!((published_table(3, &mut tables[..356]), &tables[..356]), (0, &printed([3])[..]));
         assert_eq!([published_table(3, &mut []), published_table(0, &mut []), published_table(12, &mut [])], [4, 1, 1]);
     }

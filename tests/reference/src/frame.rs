@@ -2,7 +2,7 @@
 //! and standing still over parity and dummies (document 002, 2.2.1.6 (1)).
 use crate::plan::{self, Group, SLOTS};
 use crate::slot::{self, code_slot, read_slot, Code, WIDTH};
-use crate::slot::{DUMMY, LENGTH_WRONG, PLAN_WRONG, REGISTER_WRONG, TABLE_WRONG};
+use crate::slot::{DUMMY, LENGTH_WRONG, REGISTER_WRONG, TABLE_WRONG};
 use crate::{dispersal, tables};
 
 pub const OCTETS: usize = SLOTS * slot::OCTETS;
@@ -21,9 +21,8 @@ fn accept(
     tables: &[u16],
     lengths_hold: impl Fn() -> bool,
 ) -> Result<Vec<Code>, u8> {
-    if plan::refusal(plan) != 0 {
-        Err(PLAN_WRONG)
-    } else if !dispersal::allowed(WIDTH, mask, start) {
+    plan::accept(plan)?;
+    if !dispersal::allowed(WIDTH, mask, start) {
         Err(REGISTER_WRONG)
     } else if !lengths_hold() {
         Err(LENGTH_WRONG)
@@ -192,7 +191,7 @@ mod tests {
         let (good, bad) = (small_plan(), plan::plan(&[(4, 7, 115)]));
         let tables = lent_tables(&good);
         let (short, above) = (&tables[1..], 1 << 25);
-        assert_eq!(refused(&bad, above, 0, short, [1, 1, 1]), [1, 1]);
+        assert_eq!(refused(&bad, above, 0, short, [1, 1, 1]), [15, 15]);
         assert_eq!(refused(&good, above, START, short, [1, 1, 1]), [6, 6]);
         assert_eq!(refused(&good, MASK, 0, short, [1, 1, 1]), [6, 6]);
         assert_eq!(refused(&good, MASK, START, short, [1, 0, 0]), [4, 4]);

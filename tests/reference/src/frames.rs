@@ -68,7 +68,7 @@ mod tests {
     fn the_plans_are_accepted() {
         let plans = plans();
         assert_eq!(plans.len(), 14);
-        assert!(plans.iter().all(|plan| plan::refusal(plan) == 0));
+        assert!(plans.iter().all(|plan| plan::accept(plan).is_ok()));
     }
 
     /// The answers of a frame as coded, whose source must come back, and of the damaged one.

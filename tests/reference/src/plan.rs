@@ -1,7 +1,7 @@
 //! The slot plan of document 002, 2.2.1.2 (1): which modulation and rate each of the 120 slots of a frame has, and which
 //! slots carry data.
 use crate::ldpc::ROWS;
-use crate::slot::{message_bits, PLAN_WRONG};
+use crate::slot::{message_bits, ORDER_WRONG, PLAN_WRONG, TOTAL_WRONG, VALUE_WRONG};
 
 pub const SLOTS: usize = 120;
 
@@ -33,9 +33,8 @@ impl Group {
         (1..=5).contains(&self.modulation) && (1..=11).contains(&self.rate)
     }
 
-    /// No group has more slots than the frame.
     fn whole_fives(&self) -> bool {
-        (1..=SLOTS).contains(&self.slots) && self.slots % 5 == 0
+        self.slots > 0 && self.slots % 5 == 0
     }
 }
 
@@ -65,13 +64,19 @@ fn falls(plan: &[Group]) -> bool {
     plan.windows(2).all(|two| (two[0].modulation, two[0].rate) > (two[1].modulation, two[1].rate))
 }
 
-/// 0, or 1 where a rule of a plan is broken.
-pub fn refusal(plan: &[Group]) -> u8 {
-    let holds = (1..=8).contains(&plan.len())
-        && plan.iter().all(|group| group.known() && group.whole_fives())
-        && falls(plan)
-        && plan.iter().map(|group| group.slots).sum::<usize>() == SLOTS;
-    if holds { 0 } else { PLAN_WRONG }
+/// The refusal of the first rule that is broken somewhere in the plan (document 02, N1).
+pub fn accept(plan: &[Group]) -> Result<(), u8> {
+    if !(1..=8).contains(&plan.len()) {
+        Err(PLAN_WRONG)
+    } else if !plan.iter().all(|group| group.known() && group.whole_fives()) {
+        Err(VALUE_WRONG)
+    } else if !falls(plan) {
+        Err(ORDER_WRONG)
+    } else if plan.iter().map(|group| group.slots).sum::<usize>() != SLOTS {
+        Err(TOTAL_WRONG)
+    } else {
+        Ok(())
+    }
 }
 
 /// The places of an accepted plan's slots, slot 1 first: in each group data comes before dummies.
@@ -93,25 +98,26 @@ mod tests {
     use super::*;
 
     fn number(groups: &[(usize, usize, usize)]) -> u8 {
-        refusal(&plan(groups))
+        accept(&plan(groups)).err().unwrap_or(0)
     }
 
     #[test]
     fn counts_are_fives_that_add_to_120() {
         assert_eq!(number(&[(4, 7, 115), (2, 3, 5)]), 0);
-        assert_eq!(number(&[(4, 7, 115)]), 1);
-        assert_eq!(number(&[(4, 7, 116), (2, 3, 4)]), 1);
-        assert_eq!(number(&[(4, 7, 120), (2, 3, 0)]), 1);
-        assert_eq!(number(&[(4, 7, 120), (2, 3, 5)]), 1);
+        assert_eq!(number(&[(4, 7, 115)]), 15);
+        assert_eq!(number(&[(4, 7, 116), (2, 3, 4)]), 13);
+        assert_eq!(number(&[(4, 7, 120), (2, 3, 0)]), 13);
+        assert_eq!(number(&[(4, 7, 120), (2, 3, 5)]), 15);
+        assert_eq!([number(&[(4, 7, 995)]), number(&[(4, 7, 996)])], [15, 13]);
     }
 
     #[test]
     fn octets_of_whole_groups() {
-        let number = |octets: &[u8]| refusal(&of_octets(octets));
+        let number = |octets: &[u8]| accept(&of_octets(octets)).err().unwrap_or(0);
         assert_eq!([number(&[4, 7, 115, 2, 3, 5]), number(&[5, 11, 120])], [0, 0]);
         assert_eq!([number(&[]), number(&[5, 11, 120, 0]), number(&[5, 11])], [1, 1, 1]);
         let nine: Vec<u8> = (1..=9).rev().flat_map(|rate| [1, rate, 10]).collect();
-        assert_eq!([number(&nine), number(&nine[..24])], [1, 1]);
+        assert_eq!([number(&nine), number(&nine[..24])], [1, 15]);
     }
 
     #[test]
@@ -125,17 +131,33 @@ mod tests {
     #[test]
     fn modulation_and_rate_are_known() {
         assert_eq!([number(&[(1, 1, 120)]), number(&[(5, 11, 120)])], [0, 0]);
-        assert_eq!([number(&[(0, 1, 120)]), number(&[(6, 1, 120)])], [1, 1]);
-        assert_eq!([number(&[(1, 0, 120)]), number(&[(1, 12, 120)])], [1, 1]);
+        assert_eq!([number(&[(0, 1, 120)]), number(&[(6, 1, 120)])], [13, 13]);
+        assert_eq!([number(&[(1, 0, 120)]), number(&[(1, 12, 120)])], [13, 13]);
+        assert_eq!(number(&[(5, 11, 60), (4, 1, 55), (3, 12, 5)]), 13);
     }
 
     #[test]
     fn groups_fall_strictly() {
-        assert_eq!(number(&[(2, 3, 5), (4, 7, 115)]), 1);
-        assert_eq!(number(&[(4, 3, 5), (4, 7, 115)]), 1);
-        assert_eq!(number(&[(4, 7, 5), (4, 7, 115)]), 1);
+        assert_eq!(number(&[(2, 3, 5), (4, 7, 115)]), 14);
+        assert_eq!(number(&[(4, 3, 5), (4, 7, 115)]), 14);
+        assert_eq!(number(&[(4, 7, 5), (4, 7, 115)]), 14);
+        assert_eq!(number(&[(5, 1, 60), (2, 3, 5), (4, 7, 55)]), 14);
         assert_eq!(number(&[(4, 7, 5), (4, 3, 115)]), 0);
         assert_eq!(number(&[(4, 3, 5), (2, 7, 115)]), 0);
+    }
+
+    #[test]
+    fn the_first_rule_that_is_broken() {
+        let nine = |rate: fn(usize) -> usize, last| {
+            let eight = (0..8).map(|k| (1, rate(k), 10));
+            number(&eight.chain([(1, rate(8), last)]).collect::<Vec<_>>())
+        };
+        assert_eq!(nine(|k| 12 - k, 40), 1, "nine groups, and rate 12");
+        assert_eq!(nine(|k| 1 + k, 40), 1, "nine groups that rise");
+        assert_eq!(nine(|k| 11 - k, 45), 1, "nine groups, and a total of 125");
+        assert_eq!(number(&[(2, 3, 4), (4, 7, 116)]), 13, "values, and groups that rise");
+        assert_eq!(number(&[(4, 12, 115)]), 13, "values, and a total of 115");
+        assert_eq!(number(&[(2, 3, 5), (4, 7, 110)]), 14, "groups that rise, and a total of 115");
     }
 
     #[test]

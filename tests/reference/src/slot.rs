@@ -5,7 +5,7 @@ pub const OCTETS: usize = 5610;
 pub const STUFF: [u8; 6] = [1; 6];
 pub const WIDTH: u32 = 25;
 
-/// Refusals of document 01.
+/// Refusals of documents 01 and 02.
 pub const PLAN_WRONG: u8 = 1;
 pub const DUMMY: u8 = 2;
 pub const FULL: u8 = 3;
@@ -18,6 +18,9 @@ pub const BCH_WRONG: u8 = 9;
 pub const STUFF_WRONG: u8 = 10;
 pub const TAIL_WRONG: u8 = 11;
 pub const LABEL_WRONG: u8 = 12;
+pub const VALUE_WRONG: u8 = 13;
+pub const ORDER_WRONG: u8 = 14;
+pub const TOTAL_WRONG: u8 = 15;
 
 /// What a rate fixes: its table and the generator of the outer code.
 pub struct Code {

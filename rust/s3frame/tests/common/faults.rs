@@ -27,31 +27,94 @@ pub fn choices(numbers: &[u8], times: usize) -> Vec<Faults> {
     (0..times).flat_map(|_| (0..1 << numbers.len()).map(choice)).collect()
 }
 
-/// 1: a plan that breaks a rule, made of one that keeps them.
-pub fn break_plan(random: &mut Random, plan: &mut Vec<u8>) {
-    let nine_groups: Vec<u8> = (1..=9).rev().flat_map(|rate| [1, rate, 10]).collect();
-    match random.below(13) {
-        0 => plan.clear(),
-        1 => plan.push(0),
-        2 => drop(plan.pop()),
-        3 => *plan = nine_groups,
-        4 => plan[0] = random.pick(&[0, 6, 255]),
-        5 => plan[1] = random.pick(&[0, 12, 255]),
-        6 => plan[2] += 5,
-        7 => plan[2] += 1,
-        8 => plan[2] = 0,
-        9 => *plan = vec![5, 11, 60, 5, 11, 60],
-        10 => *plan = vec![2, 3, 5, 4, 7, 115],
-        11 => *plan = vec![4, 7, 116, 2, 3, 4],
-        _ => *plan = vec![4, 3, 5, 4, 7, 115],
+/// Every choice among the four refusals of a plan and the numbers of a call behind them.
+pub fn plan_choices(behind: &[u8], times: usize) -> Vec<Faults> {
+    choices(&[&[1, 13, 14, 15], behind].concat(), times)
+}
+
+/// 1, 13, 14 and 15: a plan that breaks the rules asked for, made of one that keeps them all.
+pub fn break_plan(random: &mut Random, faults: &Faults, plan: &mut Vec<u8>) {
+    break_rules(random, faults, plan);
+    if faults.has(1) {
+        break_groups(random, plan);
     }
 }
 
-/// 1: a plan that breaks a rule, or the slot number 0.
-pub fn break_plan_or_slot(random: &mut Random, plan: &mut Vec<u8>, slot: &mut u32) {
+/// The same, with slot number 0 as another way to 1.
+pub fn break_plan_or_slot(random: &mut Random, faults: &Faults, plan: &mut Vec<u8>, slot: &mut u32) {
+    break_rules(random, faults, plan);
+    if faults.has(1) {
+        match random.below(5) {
+            0 => *slot = 0,
+            _ => break_groups(random, plan),
+        }
+    }
+}
+
+/// 13, 14 and 15, each without breaking a rule that is not asked for, or mending one that is.
+fn break_rules(random: &mut Random, faults: &Faults, plan: &mut Vec<u8>) {
+    if faults.has(15) {
+        break_total(random, plan);
+    }
+    if faults.has(13) {
+        break_value(random, plan);
+    }
+    if faults.has(14) {
+        break_order(random, plan);
+    }
+}
+
+/// 1: no groups, octets that end within one, or nine groups.
+fn break_groups(random: &mut Random, plan: &mut Vec<u8>) {
     match random.below(4) {
-        0 => *slot = 0,
-        _ => break_plan(random, plan),
+        0 => plan.clear(),
+        1 => plan.push(0),
+        2 => drop(plan.pop()),
+        _ => *plan = plan.iter().copied().cycle().take(27).collect(),
+    }
+}
+
+/// 15: a group less, or slots less or more, in fives.
+fn break_total(random: &mut Random, plan: &mut Vec<u8>) {
+    let slots = 3 * random.below(plan.len() / 3) + 2;
+    match random.below(3) {
+        0 if plan.len() > 3 => plan.truncate(plan.len() - 3),
+        1 if plan[slots] > 5 => plan[slots] -= 5,
+        _ => plan[slots] += random.pick(&[5, 10, 130]),
+    }
+}
+
+/// 13: an unknown modulation or rate in the first or last group, so that groups fall as before; or slots of no fives, or none,
+/// whose total is as before.
+fn break_value(random: &mut Random, plan: &mut [u8]) {
+    let last = plan.len() - 3;
+    match random.below(6) {
+        0 => plan[last] = 0,
+        1 => plan[last + 1] = 0,
+        2 => plan[1] = random.pick(&[12, 255]),
+        3 if last > 0 => {
+            plan[2] += 1;
+            plan[last + 2] -= 1;
+        }
+        4 if last > 0 => {
+            plan[2] += plan[last + 2];
+            plan[last + 2] = 0;
+        }
+        _ => plan[0] = random.pick(&[6, 255]),
+    }
+}
+
+/// 14: five slots of a group as another group alike, or two neighbours exchanged.
+fn break_order(random: &mut Random, plan: &mut Vec<u8>) {
+    let group = 3 * random.below(plan.len() / 3);
+    let one_more = plan.len() < 24 && plan[group + 2] > 5 && random.chance(2);
+    if one_more || plan.len() == 3 {
+        plan[group + 2] -= 5;
+        let alike = [plan[group], plan[group + 1], 5];
+        plan.splice(group..group, alike);
+    } else {
+        let pair = group.min(plan.len() - 6);
+        plan[pair..pair + 6].rotate_left(3);
     }
 }
 

@@ -1,6 +1,6 @@
 //! What the calls say of a plan and its slots.
 use crate::calls;
-use crate::common::faults::{self, choices};
+use crate::common::faults::{self, plan_choices};
 use crate::common::{trials, Random};
 use crate::{compared, kept};
 use reference::plan::of_octets;
@@ -8,9 +8,10 @@ use reference::plan::of_octets;
 #[test]
 fn a_refused_plan_has_nothing() {
     let mut random = Random::new(66);
-    for _ in 0..trials(500) {
+    let choices = plan_choices(&[], trials(40));
+    for faults in choices.iter().filter(|faults| faults.first() != 0) {
         let mut plan = random.plan().octets().to_vec();
-        faults::break_plan(&mut random, &mut plan);
+        faults::break_plan(&mut random, faults, &mut plan);
         assert_eq!([calls::source_octets(&plan), calls::tables_entries(&plan)], [0, 0], "plan {plan:?}");
     }
 }
@@ -18,7 +19,7 @@ fn a_refused_plan_has_nothing() {
 #[test]
 fn copying_the_published_tables() {
     let mut random = Random::new(67);
-    for faults in choices(&[1, 4], trials(40)) {
+    for faults in plan_choices(&[4], trials(10)) {
         let plan = random.plan();
         let rates = plan.groups().map(|group| group.rate as usize);
         let mut area = random.numbers(reference::tables::printed(rates).len());
@@ -26,9 +27,7 @@ fn copying_the_published_tables() {
         if faults.has(4) {
             faults::break_length(&mut random, &mut area);
         }
-        if faults.has(1) {
-            faults::break_plan(&mut random, &mut plan);
-        }
+        faults::break_plan(&mut random, &faults, &mut plan);
         kept(
             faults.first(),
             &area,
@@ -41,7 +40,7 @@ fn copying_the_published_tables() {
 #[test]
 fn places() {
     let mut random = Random::new(68);
-    for faults in choices(&[1, 3, 4], trials(50)) {
+    for faults in plan_choices(&[3, 4], trials(10)) {
         let (mut plan, mut slot) = (random.plan().octets().to_vec(), 1 + random.below(120) as u32);
         let mut area = [random.next(), random.next()].map(|number| [number as u32, !number as u32]).concat();
         if faults.has(4) {
@@ -50,9 +49,7 @@ fn places() {
         if faults.has(3) {
             faults::past_slot(&mut random, &mut slot);
         }
-        if faults.has(1) {
-            faults::break_plan_or_slot(&mut random, &mut plan, &mut slot);
-        }
+        faults::break_plan_or_slot(&mut random, &faults, &mut plan, &mut slot);
         let left = compared(
             faults.first(),
             &area,

@@ -1,6 +1,6 @@
 //! One slot of header and packets.
 use crate::calls;
-use crate::common::faults::{self, choices, Faults};
+use crate::common::faults::{self, plan_choices, Faults};
 use crate::common::{trials, Random};
 use crate::slots::{break_one_length, Reading};
 use crate::states::Lent;
@@ -44,7 +44,7 @@ fn coded(random: &mut Random, faults: &Faults, other_lengths: bool) {
 #[test]
 fn coding_packets() {
     let mut random = Random::new(64);
-    for faults in choices(&[1, 6, 3, 2, 4, 7, 5], trials(10)) {
+    for faults in plan_choices(&[6, 3, 2, 4, 7, 5], trials(2)) {
         for other_lengths in [false, true] {
             coded(&mut random, &faults, other_lengths);
         }
@@ -88,7 +88,7 @@ fn read(random: &mut Random, faults: &Faults) {
 #[test]
 fn reading_packets() {
     let mut random = Random::new(65);
-    for faults in choices(&[1, 6, 3, 2, 4, 5, 8, 9, 10], trials(2)) {
+    for faults in plan_choices(&[6, 3, 2, 4, 5, 8, 9, 10], trials(1)) {
         read(&mut random, &faults);
     }
 }

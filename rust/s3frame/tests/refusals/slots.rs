@@ -1,6 +1,6 @@
 //! One slot of header and data, and the lone parity check.
 use crate::calls;
-use crate::common::faults::{self, choices, Faults};
+use crate::common::faults::{self, choices, plan_choices, Faults};
 use crate::common::{code, trials, Random};
 use crate::states::Lent;
 use crate::{compared, kept};
@@ -19,7 +19,7 @@ pub fn break_one_length(random: &mut Random, areas: &mut [&mut Vec<u8>], next: &
 #[test]
 fn coding_a_slot() {
     let mut random = Random::new(53);
-    for faults in choices(&[1, 6, 3, 2, 4, 5], trials(20)) {
+    for faults in plan_choices(&[6, 3, 2, 4, 5], trials(3)) {
         let (mut lent, rate) = Lent::new(&mut random, true);
         let (mut table, mut source) = (random.table(rate), random.source(rate.source_octets()));
         let mut coded = random.octets(slot::OCTETS);
@@ -76,7 +76,7 @@ impl Reading {
 #[test]
 fn reading_a_slot() {
     let mut random = Random::new(54);
-    for faults in choices(&[1, 6, 3, 2, 4, 5, 8, 9, 10], trials(1)) {
+    for faults in plan_choices(&[6, 3, 2, 4, 5, 8, 9, 10], trials(1)) {
         let Reading { mut lent, table, mut coded, source, after, .. } = Reading::new(&mut random, &faults);
         let mut area = random.octets(source.len());
         if faults.has(4) {

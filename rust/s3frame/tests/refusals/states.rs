@@ -1,6 +1,6 @@
 //! Opening a frame and passing a dummy, and what every call at a place of a frame is lent.
 use crate::calls::{self, At};
-use crate::common::faults::{self, choices, Faults};
+use crate::common::faults::{self, plan_choices, Faults};
 use crate::common::{trials, Random};
 use crate::{compared, kept};
 use reference::calls::State;
@@ -43,9 +43,7 @@ impl Lent {
         if faults.has(6) {
             faults::break_settings(random, 25, &mut self.mask, &mut self.start);
         }
-        if faults.has(1) {
-            faults::break_plan(random, &mut self.plan);
-        }
+        faults::break_plan(random, faults, &mut self.plan);
     }
 
     /// Breaks the state as asked: what is tested last is broken first, so that it cannot undo another fault.
@@ -62,9 +60,7 @@ impl Lent {
                 _ => faults::break_settings(random, 25, &mut self.mask, &mut self.start),
             }
         }
-        if faults.has(1) {
-            faults::break_plan_or_slot(random, &mut self.plan, &mut self.slot);
-        }
+        faults::break_plan_or_slot(random, faults, &mut self.plan, &mut self.slot);
     }
 }
 
@@ -80,7 +76,7 @@ fn slot_at(random: &mut Random, plan: &[Group], data: bool) -> (u32, Rate) {
 #[test]
 fn opening() {
     let mut random = Random::new(51);
-    for faults in choices(&[1, 6, 4], trials(50)) {
+    for faults in plan_choices(&[6, 4], trials(10)) {
         let (mut lent, _) = Lent::new(&mut random, true);
         if faults.has(4) {
             faults::break_length(&mut random, &mut lent.next);
@@ -106,7 +102,7 @@ fn opening() {
 #[test]
 fn passing() {
     let mut random = Random::new(52);
-    for faults in choices(&[1, 6, 3, 2, 4], trials(20)) {
+    for faults in plan_choices(&[6, 3, 2, 4], trials(4)) {
         let (mut lent, _) = Lent::new(&mut random, false);
         if faults.has(4) {
             faults::break_length(&mut random, &mut lent.next);
