@@ -23,11 +23,11 @@ placed s = s .slot ∷ s .register ∷ []
 unfoldable pub nextNumber : List ℕ → ℕ
 nextNumber next = pick (eqb (length next) 2) 0 LENGTH
 
--- "Opening: 1, 6", and 4 for `next`
+-- the numbers of opening, and 4 for `next`
 unfoldable pub openCall : Plan → ℕ → ℕ → List ℕ → ℕ
 openCall p mask start next = andThen (openNumber p mask start) (nextNumber next)
 
--- a pass: 1, 6, 3, 2, and 4 for `next`
+-- those of a pass, and 4 for `next`
 unfoldable pub passCall : FrameState → List ℕ → ℕ
 passCall s next = andThen (passNumber s) (nextNumber next)
 

@@ -63,7 +63,7 @@ unfoldable pub sourcesOf : Plan → List ℕ → ℕ → ℕ → List ℕ → Li
 sourcesOf p ts mask start frame found =
     joined 120 (λ k. readAt (stateBefore p mask start k) ts (slotIn frame k) (sourceIn p found k))
 
--- "Whole frame: 1, 6, 4, 5", with the lengths of the two areas
+-- "Whole frame: 1, 6, 4, 5", 1 and 6 as in opening, with the lengths of the two areas
 unfoldable pub frameNumber : Plan → ℕ → ℕ → List ℕ → ℕ → ℕ → ℕ
 frameNumber p mask start ts source frame =
     andThen (openNumber p mask start)

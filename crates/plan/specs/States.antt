@@ -29,15 +29,16 @@ movedOn s r = stateAt (planIn s) (s .mask) (s .start) (s .slot + 1) r
 abbrev pub answer : ℕ → FrameState → FrameState → Answer
 answer n good refused = record { number = n; state = pick (eqb n 0) good refused }
 
--- "Opening: 1, 6"; "Its settings are mask and start of the 25-bit register"
+-- "Opening: 1, 6", the plan's other numbers behind 1 (document 02, N1); "Its settings are mask and start of the 25-bit
+-- register"
 unfoldable pub openNumber : Plan → ℕ → ℕ → ℕ
 openNumber p mask start = andThen (planNumber p) (pick (settingsOk slotWidth mask start) 0 REGISTER)
 
 unfoldable pub opened : Plan → ℕ → ℕ → Answer
 opened p mask start = answer (openNumber p mask start) (begun p mask start) zeros
 
--- "Slot calls: 1, 6 (a state handed in is tested anew; slot number 0 is 1)"; slot number 0 belongs to the first of the
--- plan's tests
+-- "Slot calls: 1, 6 (a state handed in is tested anew; slot number 0 is 1)", the plan's other numbers behind 1: so slot
+-- number 0 is tested before the plan
 unfoldable pub soundNumber : FrameState → ℕ
 soundNumber s =
     andThen (pick (eqb (s .slot) 0) PLAN 0)

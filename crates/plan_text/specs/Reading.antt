@@ -69,7 +69,7 @@ stopsAt t k = leb (length t) (lineStart t k) || not (lineOk t (lineStart t k))
 unfoldable pub linesOf : List ℕ → ℕ
 linesOf t = first 8 (stopsAt t)
 
--- "128 octets at most", all of them read as lines; "else refused as 1"
+-- "128 octets at most", all of them read as lines; "else refused as 1", document 02's "unreadable text"
 unfoldable pub textNumber : List ℕ → ℕ
 textNumber t = pick (leb (length t) 128 && eqb (lineStart t (linesOf t)) (length t)) 0 PLAN
 

@@ -66,7 +66,7 @@ listed p = record { number = planNumber p; length = pick (eqb (planNumber p) 0) 
 unfoldable pub refusedWord : List ℕ
 refusedWord = 114 ∷ 101 ∷ 102 ∷ 117 ∷ 115 ∷ 101 ∷ 100 ∷ 32 ∷ []
 
--- "A refusal prints `refused 1` alone."
+-- "A refusal prints `refused 1` alone", and document 02, N1, of the other numbers: "plan-list prints them too"
 unfoldable pub refusedText : ℕ → List ℕ
 refusedText n = refusedWord ++ (decimal n ++ (LINE-FEED ∷ []))
 

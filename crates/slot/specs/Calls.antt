@@ -23,7 +23,7 @@ use Rattle.slot.specs.Reading.{receivedNumber, sourceOf, checkedNumber}
 unfoldable pub rowsAt : FrameState → ℕ
 rowsAt s = rowsOf (rateOf (planIn s) (groupAt (planIn s) (s .slot)))
 
--- "Slot calls: 1, 6, 3, 2": "data call at a dummy"
+-- "Slot calls: 1, 6 .., 3, 2", the first three those of the state: "data call at a dummy"
 unfoldable pub dataNumber : FrameState → ℕ
 dataNumber s = andThen (stateNumber s) (pick (carries (planIn s) (s .slot)) 0 DUMMY)
 

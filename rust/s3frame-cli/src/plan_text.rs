@@ -98,8 +98,9 @@ mod tests {
     fn from_1_line_to_8_and_to_128_octets() {
         let lines = |count: usize| b"1 1 105\n".repeat(count);
         assert_eq!(octets_of(&lines(8)).map(|octets| octets.len()), Ok(24));
-        for (text, wrong) in [(&[][..], "no lines"), (&lines(9), "more than 8 lines"), (&lines(16), "more than 8 lines")] {
-            assert_eq!(octets_of(text), Err(format!("there are {wrong}")));
+        assert_eq!(octets_of(b""), Err("there are no lines".to_string()));
+        for count in [9, 16] {
+            assert_eq!(octets_of(&lines(count)), Err("there are more than 8 lines".to_string()));
         }
         assert!(octets_of(&lines(17)).expect_err("136 octets").contains("128"));
     }
