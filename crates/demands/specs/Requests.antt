@@ -90,21 +90,25 @@ UnknownRefused = (m rate : ℕ) → LoneAnswered m rate
 abbrev pub lentNumber : List ℕ → ℕ
 lentNumber octets = planNumber (planOf octets)
 
--- nine groups of 10 slots, the last of so many, with the rates of a list that begins at one of them
+-- nine groups of modulation 1, each with its rate: eight of 10 slots, and the last of so many
 abbrev pub nineGroups : (ℕ → ℕ) → ℕ → List ℕ
 nineGroups rate last = joined 8 (λ g. 1 ∷ rate g ∷ 10 ∷ []) ++ (1 ∷ rate 8 ∷ last ∷ [])
 
--- THE CASES WORKED BY HAND, and a plan that is wrong in each pair of ways
+-- THE CASES WORKED BY HAND, and plans that break each of the rules and each pair of them
 pub record WorkedPlans : Type 0 where
+  -- "Counts 115 + 5 accepted"
+  pub accepted : lentNumber (4 ∷ 7 ∷ 115 ∷ 2 ∷ 3 ∷ 5 ∷ []) ≡ 0
   -- "So 115 alone is now 15, and 116 + 4 is 13"
   pub alone : lentNumber (4 ∷ 7 ∷ 115 ∷ []) ≡ TOTAL
   pub no-fives : lentNumber (4 ∷ 7 ∷ 116 ∷ 2 ∷ 3 ∷ 4 ∷ []) ≡ VALUE
-  pub accepted : lentNumber (4 ∷ 7 ∷ 115 ∷ 2 ∷ 3 ∷ 5 ∷ []) ≡ 0
+  -- groups that rise, and "Nine groups 1"
   pub rising : lentNumber (2 ∷ 3 ∷ 5 ∷ 4 ∷ 7 ∷ 115 ∷ []) ≡ ORDER
   pub nine : lentNumber (nineGroups (λ g. 9 - g) 40) ≡ PLAN
+  -- nine groups with rate 12, that rise, of 125 slots
   pub nine-value : lentNumber (nineGroups (λ g. 12 - g) 40) ≡ PLAN
   pub nine-order : lentNumber (nineGroups (λ g. 1 + g) 40) ≡ PLAN
   pub nine-total : lentNumber (nineGroups (λ g. 9 - g) 45) ≡ PLAN
+  -- 4 + 116 that rise, rate 12 in 115 slots, groups that rise to 115 slots
   pub value-order : lentNumber (2 ∷ 3 ∷ 4 ∷ 4 ∷ 7 ∷ 116 ∷ []) ≡ VALUE
   pub value-total : lentNumber (4 ∷ 12 ∷ 115 ∷ []) ≡ VALUE
   pub order-total : lentNumber (2 ∷ 3 ∷ 5 ∷ 4 ∷ 7 ∷ 110 ∷ []) ≡ ORDER

@@ -15,7 +15,7 @@ use Rattle.lists.specs.CountLaws.{sum-none, sum-more, sum-mono, every-at}
 use Rattle.plan.specs.declared.Plan.{Plan}
 use Rattle.plan.specs.Rates.{rateOk, modulationOk}
 use Rattle.plan.specs.RateLaws.{between}
-use Rattle.plan.specs.Plans.{modulationOf, rateOf, slotsOf, slotsBefore, groupsOk, valuesOk, fallsAfter, allValuesOk, allFall, totalOk, planOk, planNumber, dataSlotsOf}
+use Rattle.plan.specs.Plans.{modulationOf, rateOf, slotsOf, slotsBefore, groupsOk, valuesOk, allValuesOk, allFall, totalOk, planOk, planNumber, dataSlotsOf}
 
 pub before-none : (p : Plan) → slotsBefore p 0 ≡ 0
 unfolding slotsBefore
@@ -28,29 +28,6 @@ before-more p g = sum-more g (slotsOf p)
 pub before-mono : (p : Plan) (g h : ℕ) → g ≤ h → slotsBefore p g ≤ slotsBefore p h
 unfolding slotsBefore
 before-mono p g h = sum-mono g h (slotsOf p)
-
--- an accepted plan
-pub record Accepted (p : Plan) : Type 0 where
-  pub low : 1 ≤ p .count
-  pub high : p .count ≤ 8
-  pub values : every (p .count) (valuesOk p) ≡ true
-  pub order : every (p .count - 1) (fallsAfter p) ≡ true
-  pub total : slotsBefore p (p .count) ≡ 120
-
-pub accepted : (p : Plan) → planNumber p ≡ 0 → Accepted p
-unfolding planNumber groupsOk
-accepted p h =
-    let a = then-zero (pick (groupsOk p) 0 PLAN) _ h in
-    let b = then-zero (pick (allValuesOk p) 0 VALUE) _ (a .1) in
-    let c = then-zero (pick (allFall p) 0 ORDER) _ (b .1) in
-    let g = between 1 8 (p .count) (not-refused (groupsOk p) PLAN (omega arith) (a .0)) in
-    record {
-      low = g .low;
-      high = g .high;
-      values = not-refused (allValuesOk p) VALUE (omega arith) (b .0);
-      order = not-refused (allFall p) ORDER (omega arith) (c .0);
-      total = eqb-true (slotsBefore p (p .count)) 120 (not-refused (totalOk p) TOTAL (omega arith) (c .1));
-    }
 
 -- a plan is accepted exactly when it keeps all four rules
 pub plan-ok : (p : Plan) → (planNumber p ≡ 0) ↔ (planOk p ≡ true)
@@ -71,7 +48,30 @@ plan-ok p = (there, back)
         let b = and-right (allValuesOk p) _ a in
         rw (and-left (groupsOk p) _ h, and-left (allValuesOk p) _ a, and-left (allFall p) _ b, and-right (allFall p) _ b)
 
--- else the first rule that it breaks gives the number
+-- an accepted plan
+pub record Accepted (p : Plan) : Type 0 where
+  pub low : 1 ≤ p .count
+  pub high : p .count ≤ 8
+  pub values : allValuesOk p ≡ true
+  pub order : allFall p ≡ true
+  pub total : slotsBefore p (p .count) ≡ 120
+
+pub accepted : (p : Plan) → planNumber p ≡ 0 → Accepted p
+unfolding planOk groupsOk
+accepted p h =
+    let k = plan-ok p .0 h in
+    let a = and-right (groupsOk p) _ k in
+    let b = and-right (allValuesOk p) _ a in
+    let g = between 1 8 (p .count) (and-left (groupsOk p) _ k) in
+    record {
+      low = g .low;
+      high = g .high;
+      values = and-left (allValuesOk p) _ a;
+      order = and-left (allFall p) _ b;
+      total = eqb-true (slotsBefore p (p .count)) 120 (and-right (allFall p) _ b);
+    }
+
+-- a refused plan's number is that of the first rule that it breaks
 module _ (p : Plan) where
   pub wrong-groups : groupsOk p ≡ false → planNumber p ≡ PLAN
   unfolding planNumber
