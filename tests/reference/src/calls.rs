@@ -1,5 +1,5 @@
-//! Calls on a plan and at a place of a frame, with document 01's refusals in their order: a state handed in is tested anew,
-//! and the next slot and register go into a lent area of two numbers.
+//! Calls on a plan and at a place of a frame, with the refusals of documents 01 and 02 in their order: a state handed in is
+//! tested anew, and the next slot and register go into a lent area of two numbers.
 use crate::dispersal::allowed;
 use crate::plan::{self, Group, Place, SLOTS};
 use crate::slot::{self, Code, DUMMY, FULL, LENGTH_WRONG, PARITY_WRONG, PLAN_WRONG, REGISTER_WRONG, TABLE_WRONG};
