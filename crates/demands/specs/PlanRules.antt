@@ -125,6 +125,7 @@ worked-plans =
       accepted = refl;
       rising = refl;
       nine = refl;
+      nine-lent = refl;
       nine-value = refl;
       nine-order = refl;
       nine-total = refl;

@@ -5,11 +5,12 @@ use mathlib.Core.Bool.{true, false, _&&_}
 use mathlib.Core.List.{List, [], _∷_, _++_}
 use mathlib.Core.Logic.{_↔_}
 use Prim.Native.Nat.{ℕ, _+_, _-_}
-use Rattle.lists.specs.Count.{joined}
+use lib.ListN.{replicate}
+use Rattle.lists.specs.Count.{table, joined}
 use Rattle.refusal.specs.Numbers.{PLAN, VALUE, ORDER, TOTAL}
 use Rattle.plan.specs.declared.Plan.{Plan}
 use Rattle.plan.specs.declared.FrameState.{FrameState}
-use Rattle.plan.specs.Records.{planIn}
+use Rattle.plan.specs.Records.{ofColumns, planIn}
 use Rattle.plan.specs.Rates.{rateOk, modulationOk}
 use Rattle.plan.specs.Plans.{groupsOk, allValuesOk, allFall, totalOk, planOk, planNumber}
 use Rattle.plan.specs.States.{opened, passed}
@@ -87,28 +88,30 @@ abbrev pub UnknownRefused : Type 0
 UnknownRefused = (m rate : ℕ) → LoneAnswered m rate
 
 -- the number of a plan that is lent as octets: modulation, rate and slots of each group
-abbrev pub lentNumber : List ℕ → ℕ
-lentNumber octets = planNumber (planOf octets)
+abbrev pub octetsNumber : List ℕ → ℕ
+octetsNumber octets = planNumber (planOf octets)
 
--- nine groups of modulation 1, each with its rate: eight of 10 slots, and the last of so many
-abbrev pub nineGroups : (ℕ → ℕ) → ℕ → List ℕ
-nineGroups rate last = joined 8 (λ g. 1 ∷ rate g ∷ 10 ∷ []) ++ (1 ∷ rate 8 ∷ last ∷ [])
+-- a plan of nine groups of modulation 1, each with its rate: eight of 10 slots, and the last of so many
+abbrev pub nineGroups : (ℕ → ℕ) → ℕ → Plan
+nineGroups rate last = ofColumns 9 (replicate 9 1) (table 9 rate) (replicate 8 10 ++ (last ∷ []))
 
 -- THE CASES WORKED BY HAND, and plans that break each of the rules and each pair of them
 pub record WorkedPlans : Type 0 where
   -- "Counts 115 + 5 accepted"
-  pub accepted : lentNumber (4 ∷ 7 ∷ 115 ∷ 2 ∷ 3 ∷ 5 ∷ []) ≡ 0
+  pub accepted : octetsNumber (4 ∷ 7 ∷ 115 ∷ 2 ∷ 3 ∷ 5 ∷ []) ≡ 0
   -- "So 115 alone is now 15, and 116 + 4 is 13"
-  pub alone : lentNumber (4 ∷ 7 ∷ 115 ∷ []) ≡ TOTAL
-  pub no-fives : lentNumber (4 ∷ 7 ∷ 116 ∷ 2 ∷ 3 ∷ 4 ∷ []) ≡ VALUE
-  -- groups that rise, and "Nine groups 1"
-  pub rising : lentNumber (2 ∷ 3 ∷ 5 ∷ 4 ∷ 7 ∷ 115 ∷ []) ≡ ORDER
-  pub nine : lentNumber (nineGroups (λ g. 9 - g) 40) ≡ PLAN
+  pub alone : octetsNumber (4 ∷ 7 ∷ 115 ∷ []) ≡ TOTAL
+  pub no-fives : octetsNumber (4 ∷ 7 ∷ 116 ∷ 2 ∷ 3 ∷ 4 ∷ []) ≡ VALUE
+  -- groups that rise
+  pub rising : octetsNumber (2 ∷ 3 ∷ 5 ∷ 4 ∷ 7 ∷ 115 ∷ []) ≡ ORDER
+  -- "Nine groups 1", as a plan and lent as octets
+  pub nine : planNumber (nineGroups (λ g. 9 - g) 40) ≡ PLAN
+  pub nine-lent : octetsNumber (joined 9 (λ g. 1 ∷ (9 - g) ∷ 10 ∷ [])) ≡ PLAN
   -- nine groups with rate 12, that rise, of 125 slots
-  pub nine-value : lentNumber (nineGroups (λ g. 12 - g) 40) ≡ PLAN
-  pub nine-order : lentNumber (nineGroups (λ g. 1 + g) 40) ≡ PLAN
-  pub nine-total : lentNumber (nineGroups (λ g. 9 - g) 45) ≡ PLAN
+  pub nine-value : planNumber (nineGroups (λ g. 12 - g) 40) ≡ PLAN
+  pub nine-order : planNumber (nineGroups (λ g. 1 + g) 40) ≡ PLAN
+  pub nine-total : planNumber (nineGroups (λ g. 9 - g) 45) ≡ PLAN
   -- 4 + 116 that rise, rate 12 in 115 slots, groups that rise to 115 slots
-  pub value-order : lentNumber (2 ∷ 3 ∷ 4 ∷ 4 ∷ 7 ∷ 116 ∷ []) ≡ VALUE
-  pub value-total : lentNumber (4 ∷ 12 ∷ 115 ∷ []) ≡ VALUE
-  pub order-total : lentNumber (2 ∷ 3 ∷ 5 ∷ 4 ∷ 7 ∷ 110 ∷ []) ≡ ORDER
+  pub value-order : octetsNumber (2 ∷ 3 ∷ 4 ∷ 4 ∷ 7 ∷ 116 ∷ []) ≡ VALUE
+  pub value-total : octetsNumber (4 ∷ 12 ∷ 115 ∷ []) ≡ VALUE
+  pub order-total : octetsNumber (2 ∷ 3 ∷ 5 ∷ 4 ∷ 7 ∷ 110 ∷ []) ≡ ORDER

@@ -37,7 +37,7 @@ fallsAfter p g =
     ltb (modulationOf p (g + 1)) (modulationOf p g)
     || (eqb (modulationOf p (g + 1)) (modulationOf p g) && ltb (rateOf p (g + 1)) (rateOf p g))
 
--- the rules of values and of order, each over the whole plan
+-- both "over the whole plan" (document 02, N1)
 abbrev pub allValuesOk : Plan → Bool
 allValuesOk p = every (p .count) (valuesOk p)
 
@@ -48,11 +48,11 @@ allFall p = every (p .count - 1) (fallsAfter p)
 abbrev pub totalOk : Plan → Bool
 totalOk p = eqb (slotsBefore p (p .count)) 120
 
--- whether a plan keeps all four rules
+-- a plan that keeps all four: any other "breaks a rule above" (document 01, "Refusal list")
 unfoldable pub planOk : Plan → Bool
 planOk p = groupsOk p && (allValuesOk p && (allFall p && totalOk p))
 
--- document 02, N1: "13 value .., 14 order .., 15 total ..": the first of these rules that does not hold
+-- document 02, N1: "13 value .., 14 order .., 15 total ..": that of the first rule that does not hold
 abbrev pub ruleNumber : Bool → Bool → Bool → ℕ
 ruleNumber values order total = andThen (pick values 0 VALUE) (andThen (pick order 0 ORDER) (pick total 0 TOTAL))
 

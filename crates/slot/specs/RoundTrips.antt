@@ -88,6 +88,7 @@ read-good s t coded source h =
 abbrev Earlier : ℕ → Type 0
 Earlier n = MovesOn n → n ≡ 0
 
+-- below 8 or above 10
 abbrev beside : ℕ → Bool
 beside n = ltb n PARITY || ltb STUFF n
 
