@@ -60,3 +60,7 @@ ORDER = 14
 -- 02, N1: "not 120"
 abbrev pub TOTAL : ℕ
 TOTAL = 15
+
+-- 02, N2: "a head is wrong, a null body holds another octet, or a head or length runs past the lent packets"
+abbrev pub PACKET : ℕ
+PACKET = 16

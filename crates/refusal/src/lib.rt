@@ -28,3 +28,5 @@ pub const VALUE: u8 = 13;
 pub const ORDER: u8 = 14;
 
 pub const TOTAL: u8 = 15;
+
+pub const PACKET: u8 = 16;

@@ -1,0 +1,14 @@
+pub mod Packets
+pub mod Fill
+pub mod Read
+pub mod Sent
+pub mod Calls
+pub mod PacketLaws
+pub mod HeadLaws
+pub mod FillLaws
+pub mod Honest
+pub mod SlotLaws
+pub mod ReadForward
+pub mod ReadLaws
+pub mod SentLaws
+pub mod TripLaws

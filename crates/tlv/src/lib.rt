@@ -1,0 +1,20 @@
+// TLV packets: heads and bodies as filling and reading test them, and what both calls answer.
+mod packets;
+
+pub use packets::body_ok;
+pub use packets::head_ok;
+pub use packets::size_at;
+
+// What filling answers: octets taken in all, and octets of a cut filler that are owed.
+pub struct FillAnswer {
+    pub number: u8,
+    pub taken: usize,
+    pub owed: usize,
+}
+
+// What reading answers: octets written, and where in the slots the unfinished one begins.
+pub struct ReadAnswer {
+    pub number: u8,
+    pub written: usize,
+    pub unfinished: usize,
+}
