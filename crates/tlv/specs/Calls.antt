@@ -79,10 +79,10 @@ readOk D T begins lost f area =
     && (eqb (length lost) (length begins)
     && (eqb area T && (placeOk D f && (allHold (placeOk D) begins && allHold markOk lost))))
 
--- 1 and 4: "reading never gives 16"
-unfoldable pub readNumber : ℕ → List ℕ → List ℕ → List ℕ → ℕ → List ℕ → ℕ
-readNumber rate slots begins lost f packets =
-    andThen (pick (rateOk rate) 0 PLAN) (pick (readOk (dataOctetsOf rate) (length slots) begins lost f (length packets)) 0 LENGTH)
+-- 1 and 4, with the length of the packets' area: "reading never gives 16"
+unfoldable pub readNumber : ℕ → List ℕ → List ℕ → List ℕ → ℕ → ℕ → ℕ
+readNumber rate slots begins lost f area =
+    andThen (pick (rateOk rate) 0 PLAN) (pick (readOk (dataOctetsOf rate) (length slots) begins lost f area) 0 LENGTH)
 
 -- what a call reads
 unfoldable pub readingOf : ℕ → List ℕ → List ℕ → List ℕ → ℕ → Reading
@@ -94,9 +94,9 @@ readingOf rate slots begins lost f =
 -- with a refusal
 unfoldable pub readAnswer : ℕ → List ℕ → List ℕ → List ℕ → ℕ → List ℕ → ReadAnswer
 readAnswer rate slots begins lost f packets =
-    pick (eqb (readNumber rate slots begins lost f packets) 0)
+    pick (eqb (readNumber rate slots begins lost f (length packets)) 0)
     (record { number = 0; written = length (readingOf rate slots begins lost f .written); unfinished = readingOf rate slots begins lost f .unfinished })
-    (record { number = readNumber rate slots begins lost f packets; written = 0; unfinished = 0 })
+    (record { number = readNumber rate slots begins lost f (length packets); written = 0; unfinished = 0 })
 
 -- "the packets go to an area as long as the slots, whole ones only, the rest left as found"
 abbrev pub laid : List ℕ → List ℕ → List ℕ
@@ -105,4 +105,4 @@ laid written found = written ++ drop (length written) found
 -- the packets' area, as found with a refusal
 unfoldable pub readPackets : ℕ → List ℕ → List ℕ → List ℕ → ℕ → List ℕ → List ℕ
 readPackets rate slots begins lost f packets =
-    pick (eqb (readNumber rate slots begins lost f packets) 0) (laid (readingOf rate slots begins lost f .written) packets) packets
+    pick (eqb (readNumber rate slots begins lost f (length packets)) 0) (laid (readingOf rate slots begins lost f .written) packets) packets

@@ -3,6 +3,7 @@ pub mod Fill
 pub mod Read
 pub mod Sent
 pub mod Calls
+pub mod CallLaws
 pub mod PacketLaws
 pub mod HeadLaws
 pub mod FillLaws

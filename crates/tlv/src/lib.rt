@@ -1,9 +1,11 @@
-// TLV packets: heads and bodies as filling and reading test them, and what both calls answer.
+// TLV packets: what filling and reading share, and what both calls answer.
 mod packets;
+mod sizes;
 
 pub use packets::body_ok;
 pub use packets::head_ok;
 pub use packets::size_at;
+pub use sizes::slots_ok;
 
 // What filling answers: octets taken in all, and octets of a cut filler that are owed.
 pub struct FillAnswer {

@@ -1,0 +1,14 @@
+use borrow.Author.Tests.{lt-ltb, le-ltb}
+use Rattle.tlv_read.proofs.calls.place_ok.Statement.{statement}
+use Rattle.tlv_read.proofs.calls.place_ok.Tie as tie
+use Rattle.tlv_read.proofs.calls.place_ok.Reads as reads
+use Rattle.tlv_read.proofs.calls.place_ok.Lts as lts
+
+returns : tie.Need-returns
+returns c = rw (lt-ltb (c .before .args .x) (c .before .args .size) (c .if1 .taken))
+
+returns-2 : tie.Need-returns-2
+returns-2 c = rw (le-ltb (c .before .args .x) (c .before .args .size) (c .if1 .left))
+
+pub place-ok-spec : {M : Type 1} → statement M
+place-ok-spec = tie.close (tie.spec returns returns-2)

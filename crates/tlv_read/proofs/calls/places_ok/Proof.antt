@@ -1,0 +1,81 @@
+use Rattle.tlv.specs.Calls.{placeOk}
+use Rattle.tlv.specs.CallLaws.{hold-not, hold-all}
+use Rattle.lists.specs.CountLaws.{every-none, every-next}
+use Rattle.lists.specs.Count.{every}
+use borrow.Author.Tests.{not-true, not-false}
+use borrow.Author.Needs.{needs}
+use native.Mathlib.Omega.{arith}
+use lib.ListN.{length, getD}
+use mathlib.Core.Bool.{Bool, true, false}
+use Prim.Native.Nat.{ℕ, _-_, _≤_}
+use mathlib.Core.Path.{_≡_, refl, sym, ap, _∙_}
+use Rattle.tlv_read.proofs.calls.places_ok.Statement.{statement}
+use Rattle.tlv_read.proofs.calls.places_ok.Tie as tie
+use Rattle.tlv_read.proofs.calls.places_ok.Reads as reads
+use Rattle.tlv_read.proofs.calls.places_ok.Lts as lts
+use Rattle.lists.proofs.index.Reads as index-reads
+use Rattle.tlv_read.proofs.calls.place_ok.Reads as place-ok-reads
+
+abbrev Inv-loop : tie.InvT-loop
+Inv-loop size begins k₀ k = every k (λ i. placeOk size (getD begins i 0)) ≡ true
+
+abbrev μ-loop : tie.MeasureT-loop
+μ-loop size begins k₀ k = length begins - k
+
+loop-holds : tie.Need-loop-holds Inv-loop μ-loop
+loop-holds c = every-none _
+
+mul-index : tie.Need-mul-index Inv-loop μ-loop
+mul-index c = search needs
+
+shared-slice-read-index : tie.Need-shared-slice-read-index Inv-loop μ-loop
+shared-slice-read-index c = search needs
+
+index-requires : tie.Need-index-requires Inv-loop μ-loop
+index-requires c κs = search needs
+
+place-ok-requires : tie.Need-place-ok-requires Inv-loop μ-loop
+place-ok-requires c κs = search needs
+
+returns : tie.Need-returns Inv-loop μ-loop
+returns c =
+    let l = c .before .before .before .before .before .loop in
+    let s = c .before .before .before .before .before .before .before .args in
+    let xs = s .begins .now in
+    let e = sym (c .before .place-ok .ensures) ∙ not-true _ (c .if1 .taken) in
+    (hold-not (placeOk (s .size)) xs (l .k) (search needs) (sym (ap (placeOk (s .size)) (c .before .before .index .ensures .0)) ∙ e))
+
+add-k : tie.Need-add-k Inv-loop μ-loop
+add-k c = search needs
+
+loop-less : tie.Need-loop-less Inv-loop μ-loop
+loop-less c = search needs
+
+loop-again : tie.Need-loop-again Inv-loop μ-loop
+loop-again c =
+    let s = c .before .before .before .before .before .before .before .args in
+    every-next (c .before .before .before .before .before .loop .k) _ (c .before .before .before .before .before .loop .inv) (sym (ap (placeOk (s .size)) (c .before .before .index .ensures .0)) ∙ sym (c .before .place-ok .ensures) ∙ not-false _ (c .if1 .left))
+
+returns-2 : tie.Need-returns-2 Inv-loop μ-loop
+returns-2 c =
+    let l = c .before .loop in
+    let s = c .before .before .before .args in
+    let xs = s .begins .now in
+    hold-all (placeOk (s .size)) xs (l .k) (search needs) (l .inv)
+
+pub places-ok-spec : {M : Type 1} → statement M
+places-ok-spec =
+    tie.close
+    (tie.spec
+    Inv-loop
+    μ-loop
+    loop-holds
+    mul-index
+    shared-slice-read-index
+    index-requires
+    place-ok-requires
+    returns
+    add-k
+    loop-less
+    loop-again
+    returns-2)

@@ -1,0 +1,5 @@
+pub mod Needs
+pub mod SlotTurns
+pub mod ReadTurns
+pub mod StepLaws
+pub mod CallTurns

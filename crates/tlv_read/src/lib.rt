@@ -1,0 +1,7 @@
+// Reading TLV packets from the data octets of slots.
+mod calls;
+mod slots;
+mod steps;
+
+pub use calls::read;
+pub use calls::read_number;
