@@ -1,9 +1,9 @@
 -- Laws of the calls' numbers: the ways out of the tests, and what a call with number 0 had.
-use mathlib.Core.Path.{_≡_, refl, sym, ap, _∙_}
+use mathlib.Core.Path.{_≡_, refl, sym, ap, ap₂, _∙_}
 use mathlib.Core.Bool.{Bool, true, false, _&&_, _||_}
 use mathlib.Core.List.{List}
 use Prim.Native.Nat.{ℕ, zero, suc, _+_, _-_, _*_, _/_, _%_, _<_, _≤_}
-use native.Mathlib.Nat.{div-add-mod}
+use native.Mathlib.Nat.{div-add-mod, mul-le-mul-left}
 use native.Mathlib.Omega.{arith}
 use borrow.Author.Tests.{lt-ltb, le-ltb, ltb-true, eq-eqb, ne-eqb, eqb-true, eqb-false, leb-true, ltb-false}
 use lib.Dec.{eqb, leb, ltb}
@@ -17,8 +17,8 @@ use Rattle.plan.specs.Rates.{rateOk, rowsOf, dataBitsOf, dataOctetsOf}
 use Rattle.plan.specs.RateLaws.{rate-rows, rate-sizes}
 use Rattle.tlv.specs.declared.ReadAnswer.{ReadAnswer}
 use Rattle.tlv.specs.Packets.{packetsOk}
-use Rattle.tlv.specs.Fill.{none}
-use Rattle.tlv.specs.Calls.{slotsOf, slotsOk, takenOk, fillLent, fillNumber, placeOk, markOk, allHold, readOk, readNumber, readingOf, readAnswer, laid, readPackets}
+use Rattle.tlv.specs.Fill.{none, filled, reports, takenAfter, owedAfter}
+use Rattle.tlv.specs.Calls.{slotsOf, slotsOk, takenOk, fillLent, fillNumber, fillAnswer, fillSlots, fillBegins, placeOk, markOk, allHold, readOk, readNumber, readingOf, readAnswer, laid, readPackets}
 
 module _ (D T b : ℕ) where
   pub slots-none : T ≡ 0 → false ≡ slotsOk D T b
@@ -45,6 +45,7 @@ rate-data rate h = let w = rate-rows rate h in record { low = omega (arith, w .l
 -- what lent slots of D octets are
 pub record Slots (D T b : ℕ) : Type 0 where
   pub some : 0 < T / D
+  pub least : D ≤ T
   pub whole : T ≡ D * (T / D)
   pub reports : b ≡ T / D
 
@@ -54,7 +55,9 @@ slots-are D T b pos h =
     let t = and-right (ltb 0 T) _ h in
     let z : T % D ≡ 0 = eqb-true (T % D) 0 (and-left (eqb (T % D) 0) _ t) in
     let w : T ≡ D * (T / D) = sym (div-add-mod T D) ∙ omega arith in
-    record { some = positive (T / D) refl w; whole = w; reports = eqb-true b (T / D) (and-right (eqb (T % D) 0) _ t) }
+    let p = positive (T / D) refl w in
+    let m : D * 1 ≤ D * (T / D) = mul-le-mul-left D p in
+    record { some = p; least = omega arith; whole = w; reports = eqb-true b (T / D) (and-right (eqb (T % D) 0) _ t) }
   where
     positive : (n : ℕ) → T / D ≡ n → T ≡ D * (T / D) → 0 < T / D
     positive zero e w =
@@ -167,3 +170,27 @@ module _ (rate : ℕ) (slots begins lost : List ℕ) (f : ℕ) (packets : List �
       → (r ≡ readAnswer rate slots begins lost f packets) × (left ≡ readPackets rate slots begins lost f packets)
   unfolding readAnswer readPackets
   read-done h r left a b = let z = eq-eqb (readNumber rate slots begins lost f (length packets)) 0 (sym e ∙ h) in (rw z a, rw z b)
+
+-- a refused filling, and one that is accepted
+module _ (rate : ℕ) (packets : List ℕ) (taken owed : ℕ) (slots begins : List ℕ) (n : ℕ) (e : n ≡ fillNumber rate packets taken owed slots begins) where
+  pub fill-refused : (n ≡ 0 → ⊥)
+      → (record { number = n; taken = 0; owed = 0 } ≡ fillAnswer rate packets taken owed slots begins)
+      × ((slots ≡ fillSlots rate packets taken owed slots begins)
+      × (begins ≡ fillBegins rate packets taken owed slots begins))
+  unfolding fillAnswer fillSlots fillBegins
+  fill-refused h =
+      let z = ne-eqb (fillNumber rate packets taken owed slots begins) 0 (λ x. h (e ∙ x)) in
+      (rw z (ap (λ (k : ℕ). record { number = k; taken = 0; owed = 0 }) e), (rw z, rw z))
+
+  pub fill-done : n ≡ 0 → (t w : ℕ) (area told : List ℕ)
+      → t ≡ takenAfter packets taken owed (length slots)
+      → w ≡ owedAfter packets taken owed (length slots)
+      → area ≡ filled packets taken owed (length slots)
+      → told ≡ reports (dataOctetsOf rate) (slotsOf rate slots) packets taken owed
+      → (record { number = 0; taken = t; owed = w } ≡ fillAnswer rate packets taken owed slots begins)
+      × ((area ≡ fillSlots rate packets taken owed slots begins)
+      × (told ≡ fillBegins rate packets taken owed slots begins))
+  unfolding fillAnswer fillSlots fillBegins
+  fill-done h t w area told a b c d =
+      let z = eq-eqb (fillNumber rate packets taken owed slots begins) 0 (sym e ∙ h) in
+      (rw z (ap₂ (λ (x y : ℕ). record { number = 0; taken = x; owed = y }) a b), (rw z c, rw z d))

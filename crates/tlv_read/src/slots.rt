@@ -42,13 +42,7 @@ pub fn next_begin(size: usize, count: usize, lost: &[u8], begins: &[u16], slot: 
 }
 
 // Where reading begins.
-pub fn start_at(
-    size: usize,
-    count: usize,
-    lost: &[u8],
-    begins: &[u16],
-    first: usize,
-) -> usize
+pub fn start_at(size: usize, count: usize, lost: &[u8], begins: &[u16], first: usize) -> usize
     requires { ⌜ Reported size count (now lost) (now begins) ⌝ }
     ensures { λ r. ⌜ r ≡ start size count (now (lost .entry)) (now (begins .entry)) first ⌝ }
 {

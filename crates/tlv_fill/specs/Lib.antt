@@ -1,0 +1,4 @@
+pub mod Needs
+pub mod PacketTurns
+pub mod OctetTurns
+pub mod BeginTurns
