@@ -30,7 +30,7 @@ as-given P x f = go (leb x 255) refl
 unknown : (most x : ℕ) → most ≤ 255 → 255 < x → (leb 1 x && leb x most) ≡ false
 unknown most x l h = rw (le-leb 1 x (omega arith), lt-leb x most (omega arith))
 
-unknown-rate : (x : ℕ) → 255 < x → rateOk x ≡ false
+pub unknown-rate : (x : ℕ) → 255 < x → rateOk x ≡ false
 unknown-rate x h = unknown 11 x (omega arith) h
 
 and-no : (a b : Bool) → b ≡ false → (a && b) ≡ false

@@ -9,4 +9,5 @@ pub use places::put_moved;
 pub use places::put_place;
 pub use places::state_of;
 pub use places::with_next;
+pub use places::with_two;
 pub use plans::plan_of;

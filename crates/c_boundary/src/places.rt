@@ -3,6 +3,7 @@ ghost use mathlib.Core.Path.{_≡_};
 ghost use lib.Dec.{eqb};
 ghost use lib.ListN.{length};
 ghost use Rattle.lists.specs.Choice.{pick, andThen};
+ghost use Rattle.refusal.specs.Numbers.{LENGTH};
 ghost use Rattle.plan.specs.Records.{stateAt};
 ghost use Rattle.c_boundary.specs.Narrow.{narrowed};
 ghost use Rattle.c_boundary.specs.Plans.{planOf};
@@ -20,16 +21,23 @@ pub fn state_of(plan: &[u8], mask: u32, start: u32, slot: u32, register: u32) ->
 }
 
 // A number that refuses, then the refusal of an area that is not two numbers long, or 0.
-pub fn with_next(number: u8, next: &[u32]) -> u32
-    ensures { λ r. ⌜ r ≡ andThen number (nextNumber (now (next .entry))) ⌝ }
+pub fn with_two(number: u8, length: usize) -> u32
+    ensures { λ r. ⌜ r ≡ andThen number (pick (eqb length 2) 0 LENGTH) ⌝ }
 {
     if number != 0 {
         return word(number);
     }
-    if next.len() != 2 {
+    if length != 2 {
         return word(refusal::LENGTH);
     }
     0
+}
+
+// The same of the area `next`.
+pub fn with_next(number: u8, next: &[u32]) -> u32
+    ensures { λ r. ⌜ r ≡ andThen number (nextNumber (now (next .entry))) ⌝ }
+{
+    with_two(number, next.len())
 }
 
 // Puts a state's next slot and register.

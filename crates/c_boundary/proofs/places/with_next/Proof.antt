@@ -1,22 +1,12 @@
--- `c_boundary::with_next`: each way out rewrites with the tests on the way to it.
+-- `c_boundary::with_next`: the length is that of the area.
 use borrow.Author.Needs.{needs}
-use borrow.Author.Tests.{eq-eqb, ne-eqb}
 use Rattle.c_boundary.specs.Calls.{nextNumber}
 use Rattle.c_boundary.proofs.places.with_next.Statement.{statement}
 use Rattle.c_boundary.proofs.places.with_next.Tie as tie
 
 returns : tie.Need-returns
-returns c = rw (ne-eqb _ 0 (c .before .if1 .taken)) (c .word .ensures)
-
-returns-2 : tie.Need-returns-2
 unfolding nextNumber
-returns-2 c =
-    let b = c .before in
-    rw (eq-eqb _ 0 (b .before .if1 .left), ne-eqb _ 2 (b .if2 .taken)) (c .word2 .ensures)
-
-returns-3 : tie.Need-returns-3
-unfolding nextNumber
-returns-3 c = rw (eq-eqb _ 0 (c .before .if1 .left), eq-eqb _ 2 (c .if2 .left))
+returns c = c .with-two .ensures
 
 pub with-next-spec : {M : Type 1} → statement M
-with-next-spec = tie.close (tie.spec (λ c κs. search needs) returns (λ c κs. search needs) returns-2 returns-3)
+with-next-spec = tie.close (tie.spec (λ c κs. search needs) returns)
