@@ -118,8 +118,7 @@ impl TlvSupply {
         } else {
             "is a null packet and holds another octet than 0xFF".to_string()
         };
-        let why = format!("packet {number}, counted from 0, at octet {octet}, {why}");
-        Failure::refused(self.input.name(), Refusal::Packet, why)
+        Failure::refused_packet(self.input.name(), Refusal::Packet, number, octet, why)
     }
 
     /// What to say where packets were refused: the first that is refused alone.

@@ -32,8 +32,7 @@ impl TsSupply {
             Some(at) if refusal == Refusal::Sync => {
                 let packet = self.before + (self.done / PACKET_OCTETS + at) as u64;
                 let octet = packet * PACKET_OCTETS as u64;
-                let why = format!("packet {packet}, counted from 0, at octet {octet}, does not begin 0x47");
-                Failure::refused(self.input.name(), refusal, why)
+                Failure::refused_packet(self.input.name(), refusal, packet, octet, "does not begin 0x47")
             }
             _ => Failure::new(self.input.name(), refusal),
         }

@@ -36,8 +36,8 @@ PLAN
 const FRAME_FORM: &str = "\
 FILES
   Packets are TS packets of 188 octets, end to end, each beginning 0x47, or with --tlv TLV
-  packets. A frame has 673,200 octets: 120 slots of 5,610. Headers are 22 octets for each data slot, in the order of the
-  slots. The parity tables are the published ones.
+  packets. A frame has 673,200 octets: 120 slots of 5,610. Headers are 22 octets for each data
+  slot, in the order of the slots. The parity tables are the published ones.
 
   `-`, or no name, is standard input or output. A file that is made gets its name once it is
   whole; until then an earlier file of that name stays. No output may be an input, or another
@@ -135,15 +135,15 @@ pub struct SettingWords {
 /// Codes TS or TLV packets into frames
 ///
 /// Puts the packets into the data slots of as many frames as they need. Null packets fill the last frame, dummies are zeros.
-/// The last line says how many frames there are, how many packets they carry, and how many null packets behind these; of TLV
-/// packets, how many octets they have, and how many octets of empty null packets are behind these.
+/// The last line says how many frames there are, how many packets they carry, and how many null packets behind these; for
+/// TLV packets instead how many octets the packets have, and how many octets of empty null packets fill up behind them.
 ///
 /// A packet that does not begin 0x47, or a TLV packet of another form, is refused. Where the packets end inside one, what
 /// came before it is coded.
 #[derive(Args)]
 #[command(after_long_help = page(&[PLAN_FORM, FRAME_FORM, TLV_FORM, STATUS,
     "EXAMPLE\n  s3frame code --plan plan.txt --mask 0x1234567 --start 1 sent.ts -o frames\n  \
-     s3frame code --tlv --plan plan.txt --mask 0x1234567 --start 1 sent.tlv -o frames --begins reports"]))]
+     s3frame code --tlv --plan one-group.txt --mask 0x1234567 --start 1 sent.tlv -o frames"]))]
 pub struct CodeWords {
     #[command(flatten)]
     pub settings: SettingWords,
@@ -170,15 +170,15 @@ pub struct CodeWords {
 /// carries, those that were written, those of refused slots, each counted for itself, and the null packets among those
 /// written; and such a line for all frames. Frames and slots are counted from 1.
 ///
-/// Of TLV packets these lines have the packets that were written, their octets, the data octets of refused slots, and the
-/// octets of a packet that the frame does not finish: the next frame does, and behind the last frame such a packet is not
-/// written. The beginning of an empty null packet is no such packet.
+/// Of TLV packets these lines have how many were written, their octets, the data octets of refused slots, and the octets so
+/// far of a packet that goes on in the next frame. Behind the last frame such a packet is not written; an empty null packet
+/// that is cut there does not count.
 ///
 /// Where the frames end inside one, those before it are read.
 #[derive(Args)]
 #[command(after_long_help = page(&[PLAN_FORM, FRAME_FORM, TLV_FORM, JSON_FORM, STATUS,
     "EXAMPLE\n  s3frame monitor --plan plan.txt --mask 0x1234567 --start 1 frames -o back.ts --svg slots.svg\n  \
-     s3frame monitor --tlv --plan plan.txt --mask 0x1234567 --start 1 frames -o back.tlv --begins reports"]))]
+     s3frame monitor --tlv --plan one-group.txt --mask 0x1234567 --start 1 frames -o back.tlv"]))]
 pub struct MonitorWords {
     #[command(flatten)]
     pub settings: SettingWords,
