@@ -21,6 +21,7 @@ mod report;
 mod rows;
 mod tally;
 mod tlv_code;
+mod tlv_input;
 mod tlv_monitor;
 mod tlv_packets;
 mod ts_code;
