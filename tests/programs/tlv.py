@@ -268,7 +268,7 @@ def wrong_reports():
     os.rename("elsewhere", "frames.begins")
 
 
-def wrong_words():
+def words_and_help():
     beside = ("out", "out.begins")
     no_name = "has no name for the reports of its slots: name their file with --begins$"
     refused("frames without a name", [*CODE, "packets"], f"^s3frame code: standard output: {no_name}")
@@ -288,11 +288,15 @@ def wrong_words():
     for words, outputs in (([*CODE, "packets", "-o", "out"], beside), ([*MONITOR, "frames", "-o", "out"], ("out",))):
         refused(f"two groups: {words[0]}", words, f"^s3frame {words[0]}: plan: has 2 groups, but TLV packets fill the data slots of "
                 "one group$", outputs=outputs)
+        page = well(f"help of {words[0]}", words[0], "--help")
+        check(f"help of {words[0]}: packets and reports", all(part in page for part in ("\nTLV\n", "0x7F", ".begins", "65535")))
 
 
 def test():
     there_and_back(FEW, SLOTS, DATA, of_all_kinds(1, 150))
     there_and_back(FEW, SLOTS, DATA, [EMPTY])
+    for octets in (1, 2, 3):
+        there_and_back(FEW, SLOTS, DATA, [packet(1, bytes(octets))])  # the last filler is cut
     there_and_back(FEW, SLOTS, DATA, [packet(1, bytes(SLOTS * DATA - 4))])
     there_and_back(FULL, 120, 5049, of_all_kinds(2, 600) + [packet(3, bytes(65535))] * 3)
     damage()
@@ -303,4 +307,4 @@ def test():
     cut_packets()
     wrong_packets()
     wrong_reports()
-    wrong_words()
+    words_and_help()
