@@ -8,6 +8,7 @@ import subprocess
 
 from common import (COMMAND, FEW, FRAME, HEADER, MASK, REFERENCE, SETTINGS, SLOT, START, WORKED, check, equal, got, json_lines,
                     limit, put, refused, run, samples, well)
+from damage import cells
 
 CODE, MONITOR = ["code", "--tlv", *SETTINGS], ["monitor", "--tlv", *SETTINGS]
 EMPTY = b"\x7f\xff\0\0"
@@ -124,6 +125,7 @@ def with_lost_slots(packets, frames, lost):
         equal("a frame's line", told, [f"frame {frame + 1} accepted {SLOTS - gone} dummy 96 parity {gone} BCH 0 stuff 0 "
                                        + carried(packets, frame, lost)])
     equal("the lines that JSON makes", json_lines("out.json"), lines)
+    equal("cells of refused slots in the picture", cells()[1]["refused 8 parity"], len(lost))
 
 
 def damage():

@@ -54,36 +54,29 @@ impl Begins {
         self.frames += 1;
         let whole = self.input.fill(&mut self.area)? / OCTETS;
         if whole < self.slots.len() {
-            return Err(self.wrong(format_args!("ends before the report of {}", self.slot(whole))));
+            return Err(self.wrong("ends before the report of", whole, ""));
         }
         let begins: Vec<u16> = self.area.chunks_exact(OCTETS).map(|two| u16::from_be_bytes([two[0], two[1]])).collect();
         let octets = self.rate.data_octets();
-        match begins.iter().position(|begin| usize::from(*begin) >= octets && *begin != NO_BEGIN) {
-            Some(at) => {
-                let (slot, begin) = (self.slot(at), begins[at]);
-                Err(self.wrong(format_args!(
-                    "the report of {slot} is {begin}, past its {octets} octets and not {NO_BEGIN}"
-                )))
-            }
-            None => Ok(begins),
+        if let Some(at) = begins.iter().position(|begin| *begin != NO_BEGIN && usize::from(*begin) >= octets) {
+            let past = format!(" is {}, past its {octets} octets and not {NO_BEGIN}", begins[at]);
+            return Err(self.wrong("the report of", at, &past));
         }
+        Ok(begins)
     }
 
     /// Sees to it that no report follows those that were taken.
     pub fn end(&mut self) -> Result<(), Failure> {
         match self.input.fill(&mut [0])? {
             0 => Ok(()),
-            _ => Err(self.wrong(format_args!("goes on after the report of {}", self.slot(self.slots.len() - 1)))),
+            _ => Err(self.wrong("goes on after the report of", self.slots.len() - 1, "")),
         }
     }
 
-    /// What messages call a data slot of the frame.
-    fn slot(&self, at: usize) -> String {
-        format!("slot {} of frame {}", self.slots[at], self.frames)
-    }
-
-    fn wrong(&self, wrong: std::fmt::Arguments) -> Failure {
-        Failure::new(self.input.name(), wrong)
+    /// What is wrong at a data slot of the frame, in the words before and behind its name.
+    fn wrong(&self, before: &str, at: usize, behind: &str) -> Failure {
+        let (slot, frame) = (self.slots[at], self.frames);
+        Failure::new(self.input.name(), format!("{before} slot {slot} of frame {frame}{behind}"))
     }
 }
 
