@@ -160,6 +160,21 @@ def wrong_heads():
     equal("wrong heads are no refused slots", line[:38], "frames 1 accepted 24 dummy 96 parity 0")
 
 
+def wrong_null():
+    """A null packet over two frames with another octet inside: reading goes on behind its head's slot, in the frame before."""
+    first, inside, behind = packet(2, bytes((SLOTS - 2) * DATA - 4)), packet(1, bytes(96)), packet(3, bytes(96))
+    null = bytearray(packet(0xFF, b"\xff" * 5000))
+    null[DATA + 100:DATA + 200] = inside
+    stream = (first + null + behind).ljust(2 * SLOTS * DATA, b"\0")
+    put("as_ts", as_ts(stream))
+    well("code of a wrong null packet", "code", *SETTINGS, "as_ts", "-o", "frames")
+    begins = {0: 0, SLOTS - 2: 0, SLOTS - 1: 100, SLOTS: len(null) - 2 * DATA}
+    put("frames.begins", b"".join(begins.get(slot, NONE).to_bytes(2, "big") for slot in range(2 * SLOTS)))
+    lines = well("monitor of a wrong null packet", *MONITOR, "frames", "-o", "back").splitlines()
+    equal("what follows the head's slot comes back", got("back"), first + inside + behind)
+    equal("the null packet goes on behind frame 1", lines[0].split(" ")[-1], str(2 * DATA))
+
+
 def headers():
     packets, given = of_all_kinds(6, 50), samples(22)
     put("plan", FEW)
@@ -303,6 +318,7 @@ def test():
     there_and_back(FULL, 120, 5049, of_all_kinds(2, 600) + [packet(3, bytes(65535))] * 3)
     damage()
     wrong_heads()
+    wrong_null()
     headers()
     pipes()
     long_stream()

@@ -8,7 +8,7 @@ const STATUS: &str = "\
 EXIT STATUS
   0  all is well
   1  slots are refused, lists differ, or an input ends inside a packet or a frame
-  2  wrong use, a file that cannot be read or written, a refused plan or setting;
+  2  wrong use, a file that cannot be read, written or used, a refused plan or setting;
      no file is left
 
 A run that is interrupted (SIGHUP, SIGINT, SIGTERM) ends by the signal, and leaves no file.";

@@ -27,14 +27,14 @@ pub struct TlvRead {
 /// to end, and `begins` has a number for each of them.
 ///
 /// A packet is 0x7F, a type octet (0x01, 0x02, 0x03, 0xFE or 0xFF), a length of two octets, high octet first, and a body of
-/// that length; the body of a null packet, type 0xFF, is all 0xFF. `packets` are whole packets end to end, those among them
-/// included that were taken `from` the front before. They go on from slot to slot. Where they run out, empty null packets
-/// (7F FF 00 00) fill up, the last of them cut where the slots end.
+/// that length; the body of a null packet, type 0xFF, is all 0xFF. `packets` are whole packets end to end, and `from` says how
+/// many of their octets earlier slots took. They run on from slot to slot; where they run out, empty null packets
+/// (7F FF 00 00) fill up, the last of them cut where the slots end. Each number of `begins` becomes the octet of its slot where
+/// the first packet or filler begins, or [`NO_BEGIN`].
 ///
-/// The answer says how far that came. The next slots are filled with the same packets from there on, or, once all were taken,
-/// with further packets from `taken` 0 and what is `owed`. Packets in front that were taken whole may be left out, and their
-/// octets are then taken off `taken`. Each number of `begins` is the octet of its slot where the first packet or filler
-/// begins, or [`NO_BEGIN`].
+/// The answer says how far that came, and the next slots are filled from there on: with the same packets, or without those in
+/// front that were taken whole, whose octets are then taken off `taken`. Further packets may stand behind them; where octets
+/// of a filler are `owed`, all packets that were taken have to be left out for that.
 ///
 /// Refused: [`Refusal::Length`] (also `from` a place behind the packets, more than 3 octets owed, or any owed inside the
 /// packets), [`Refusal::Packet`]; `slots` and `begins` are then as they were.
