@@ -1,4 +1,5 @@
 """What the tests of the command share: counted checks, sample plans and packets, files, and runs."""
+import json
 import os
 import re
 import resource
@@ -65,15 +66,17 @@ def well(what, *words, status=0, told="", **more):
     return out.decode()
 
 
-def refused(what, words, line, given=b"", outputs=("out",)):
-    """A run that ends with status 2 and a line that fits: outputs that were there before stay, and nothing else is left."""
+def refused(what, words, line, given=b"", outputs=("out",), told=0):
+    """A run that ends with status 2 and a line that fits, and has told of so many frames before: outputs that were there
+    before stay, and nothing else is left.
+    """
     for name in outputs:
         put(name, "earlier")
     before = sorted(os.listdir("."))
     status, out, error = run(*words, given=given)
     equal(f"{what}: status", status, 2)
     check(f"{what}: a line that says so, not: {error}", re.search(line, error, re.MULTILINE) is not None)
-    equal(f"{what}: standard output", out.decode(), "")
+    equal(f"{what}: standard output", [line[:6] for line in out.decode().splitlines()], ["frame "] * told)
     equal(f"{what}: names that are left", sorted(os.listdir(".")), before)
     check(f"{what}: an earlier output stays", all(got(name) == b"earlier" for name in outputs))
 
@@ -90,3 +93,15 @@ def counts(line):
     """A report line's names and numbers."""
     words = line.split(" ")
     return dict(zip(words[::2], map(int, words[1::2])))
+
+
+def json_lines(name):
+    """The lines of a report, made of its document."""
+    document = json.loads(got(name))
+    told = []
+    for frame in document["frames"]:
+        slots = frame.pop("refused")
+        told += [f"frame {frame['frame']} slot {slot['slot']} refused {slot['number']} {slot['word']} lost {slot['lost']}"
+                 for slot in slots]
+        told.append(" ".join(f"{name} {value}" for name, value in frame.items()))
+    return told + [" ".join(f"{name} {value}" for name, value in document["total"].items())]

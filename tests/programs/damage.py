@@ -5,8 +5,8 @@ import subprocess
 import xml.etree.ElementTree as xml
 from collections import Counter
 
-from common import (FEW, FRAME, PACKET, REFERENCE, SETTINGS, SLOT, WORKED, check, counts, equal, frames_of, got, limit, put,
-                    samples, well)
+from common import (FEW, FRAME, PACKET, REFERENCE, SETTINGS, SLOT, WORKED, check, counts, equal, frames_of, got, json_lines,
+                    limit, put, samples, well)
 
 SVG = "{http://www.w3.org/2000/svg}"
 REPORTS = ["--json", "out.json", "--svg", "out.svg"]
@@ -33,15 +33,8 @@ def damaged(frames):
 
 def same_in_json(lines):
     """The document says what the lines say."""
+    equal("the lines that JSON makes", json_lines("out.json"), lines)
     document = json.loads(got("out.json"))
-    told = []
-    for frame in document["frames"]:
-        slots = frame.pop("refused")
-        told += [f"frame {frame['frame']} slot {slot['slot']} refused {slot['number']} {slot['word']} lost {slot['lost']}"
-                 for slot in slots]
-        told.append(" ".join(f"{name} {value}" for name, value in frame.items()))
-    told.append(" ".join(f"{name} {value}" for name, value in document["total"].items()))
-    equal("the lines that JSON makes", told, lines)
     settings = {"plan": [{"modulation": 4, "rate": 7, "slots": 115}, {"modulation": 2, "rate": 3, "slots": 5}],
                 "mask": 19088743, "start": 12246029, "left_over": 0}
     equal("plan and settings in JSON", {name: document[name] for name in settings}, settings)

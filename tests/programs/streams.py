@@ -98,9 +98,10 @@ def cut_packets():
     refused("part of a packet", ["code", *SETTINGS, "cut", "-o", "out"],
             "^s3frame code: cut: has no whole packet: it ends after 187 octets$")
     refused("no packets", ["code", *SETTINGS, "-o", "out"], "^s3frame code: standard input: has no packets$")
-    put("cut", packets[:2000 * PACKET] + b"\0" + packets[2000 * PACKET + 1:])
-    refused("a packet without sync", ["code", *SETTINGS, "cut", "-o", "out"],
-            "^s3frame code: cut: refused 7 sync: packet 2000, counted from 0, at octet 376000, does not begin 0x47$")
+    for number, at in ((2000, 376000), (2149, 404012)):
+        put("cut", packets[:at] + b"\0" + packets[at + 1:])
+        refused("a packet without sync", ["code", *SETTINGS, "cut", "-o", "out"],
+                f"^s3frame code: cut: refused 7 sync: packet {number}, counted from 0, at octet {at}, does not begin 0x47$")
 
 
 def cut_frames():

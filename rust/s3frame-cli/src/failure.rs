@@ -22,6 +22,12 @@ impl Failure {
         Failure::new(about, format!("refused {} {}: {why}", refusal.number(), refusal.word()))
     }
 
+    /// A packet that was refused, by its number and the octet of the stream where it begins.
+    pub fn refused_packet(about: &str, refusal: Refusal, packet: u64, octet: u64, why: impl Display) -> Failure {
+        let why = format!("packet {packet}, counted from 0, at octet {octet}, {why}");
+        Failure::refused(about, refusal, why)
+    }
+
     /// A stream without a single packet or frame, of so many octets.
     pub fn without(name: &str, unit: &str, octets: usize) -> Failure {
         match octets {

@@ -132,6 +132,6 @@ impl Files {
 }
 
 /// The path that a word names, where it names one.
-fn named(word: Option<&Path>) -> Option<&Path> {
+pub fn named(word: Option<&Path>) -> Option<&Path> {
     word.filter(|path| *path != Path::new(STANDARD))
 }

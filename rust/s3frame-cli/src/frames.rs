@@ -3,17 +3,19 @@ use crate::failure::Failure;
 use crate::files::{Content, Files};
 use crate::plan_text::{lines_at_fault, octets_of, MOST_OCTETS};
 use crate::words::SettingWords;
-use s3frame::{FrameState, Place, Plan, Refusal, SlotSettings, SLOTS};
+use s3frame::{FrameState, Place, Plan, Rate, Refusal, SlotSettings, SLOTS};
 use std::path::Path;
 
-/// Reads a plan's file. One octet more than a text may have is asked for, so that a longer one is seen to be so.
-pub fn read_plan(files: &mut Files, word: &Path) -> Result<Plan, Failure> {
+/// Reads a plan's file: the plan, and what messages call the file. One octet more than a text may have is asked for, so that
+/// a longer one is seen to be so.
+pub fn read_plan(files: &mut Files, word: &Path) -> Result<(Plan, String), Failure> {
     let mut input = files.open(Some(word), Content::Text)?;
     let mut text = [0; MOST_OCTETS + 1];
     let length = input.fill(&mut text)?;
     let octets = octets_of(&text[..length]).map_err(|wrong| Failure::refused(input.name(), Refusal::Plan, wrong))?;
     let refused = |refusal| Failure::new(input.name(), format!("{refusal}{}", lines_at_fault(&octets, refusal)));
-    Plan::of_octets(&octets).map_err(refused)
+    let plan = Plan::of_octets(&octets).map_err(refused)?;
+    Ok((plan, input.name().to_string()))
 }
 
 /// The places of a plan's slots, slot 1 first.
@@ -34,22 +36,39 @@ pub struct Layout {
     /// The slots, slot 1 first.
     pub places: Vec<Place>,
     tables: Vec<Vec<u16>>,
+    plan_name: String,
 }
 
 impl Layout {
     /// The layout of a plan's file under mask and start.
     pub fn open(files: &mut Files, words: &SettingWords) -> Result<Layout, Failure> {
-        let plan = read_plan(files, &words.plan)?;
+        let (plan, plan_name) = read_plan(files, &words.plan)?;
         let settings = SlotSettings { mask: words.mask.value, start: words.start.value };
         let about = format!("mask {} and start {}", words.mask, words.start);
         let opened = FrameState::open(plan, settings).map_err(|refusal| Failure::new(about, refusal))?;
         let tables = plan.groups().map(|group| group.rate.published_table()).collect();
-        Ok(Layout { opened, places: places(&plan), tables })
+        Ok(Layout { opened, places: places(&plan), tables, plan_name })
     }
 
     /// The parity table of a place.
     pub fn table(&self, place: &Place) -> &[u16] {
         &self.tables[place.group]
+    }
+
+    /// The numbers of the data slots, from 1.
+    pub fn data_slots(&self) -> Vec<usize> {
+        self.places.iter().zip(1..).filter(|(place, _)| place.data).map(|(_, slot)| slot).collect()
+    }
+
+    /// The rate of all slots, for a stream that fills the data slots of one group.
+    pub fn only_rate(&self) -> Result<Rate, Failure> {
+        match self.tables.len() {
+            1 => Ok(self.places[0].rate),
+            groups => {
+                let wrong = format!("has {groups} groups, but TLV packets fill the data slots of one group");
+                Err(Failure::new(&self.plan_name, wrong))
+            }
+        }
     }
 
     /// An area for the packets of any slot.

@@ -1,7 +1,7 @@
 //! The report for programs: one JSON document, written frame by frame.
 use crate::failure::Failure;
 use crate::outputs::Output;
-use crate::tally::{Refused, Tally};
+use crate::tally::{Carried, Refused, Tally};
 use s3frame::FrameState;
 use serde::Serialize;
 
@@ -15,19 +15,19 @@ struct Group {
 
 /// A frame in the document.
 #[derive(Serialize)]
-struct Frame<'a> {
+struct Frame<'a, C> {
     frame: u64,
     #[serde(flatten)]
-    tally: Tally,
+    tally: Tally<C>,
     refused: &'a [Refused],
 }
 
 /// The sums of all frames.
 #[derive(Serialize)]
-struct Total {
+struct Total<C> {
     frames: u64,
     #[serde(flatten)]
-    tally: Tally,
+    tally: Tally<C>,
 }
 
 /// A document of which the list of frames is open.
@@ -46,13 +46,13 @@ impl Json {
     }
 
     /// Writes a frame; frames are numbered from 1.
-    pub fn frame(&mut self, frame: u64, tally: Tally, refused: &[Refused]) -> Result<(), Failure> {
+    pub fn frame<C: Carried>(&mut self, frame: u64, tally: Tally<C>, refused: &[Refused]) -> Result<(), Failure> {
         let before = if frame == 1 { "" } else { ",\n" };
         self.0.write(format!("{before}{}", text(&Frame { frame, tally, refused })).as_bytes())
     }
 
     /// Closes the list, and writes the sums and how many octets were left over.
-    pub fn end(mut self, frames: u64, tally: Tally, left_over: usize) -> Result<Output, Failure> {
+    pub fn end<C: Carried>(mut self, frames: u64, tally: Tally<C>, left_over: usize) -> Result<Output, Failure> {
         let total = text(&Total { frames, tally });
         self.0.write(format!("\n],\n\"total\": {total},\n\"left_over\": {left_over}\n}}\n").as_bytes())?;
         Ok(self.0)

@@ -1,4 +1,6 @@
 //! The command `s3frame`: `s3frame --help` says what it does.
+mod account;
+mod begins;
 mod code;
 mod compare;
 mod failure;
@@ -18,6 +20,12 @@ mod progress;
 mod report;
 mod rows;
 mod tally;
+mod tlv_code;
+mod tlv_input;
+mod tlv_monitor;
+mod tlv_packets;
+mod ts_code;
+mod ts_monitor;
 mod words;
 
 use clap::Parser;

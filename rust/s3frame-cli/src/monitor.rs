@@ -1,44 +1,46 @@
 //! `s3frame monitor`: frames into packets, and a report of every slot.
+use crate::account::{Account, Found};
 use crate::failure::{Failure, Outcome};
 use crate::files::{Content, Files};
 use crate::frames::Layout;
 use crate::inputs::Input;
-use crate::json::Json;
 use crate::outputs::{self, Output};
-use crate::packets::count_null;
-use crate::picture;
 use crate::progress::Progress;
-use crate::report::Report;
-use crate::rows::{Row, Rows};
-use crate::tally::{Answer, Refused, Tally};
+use crate::tally::{Answer, Carried, Refused};
+use crate::tlv_monitor::TlvDelivery;
+use crate::ts_monitor::TsDelivery;
 use crate::words::MonitorWords;
-use s3frame::{FrameState, Place, SlotRead, FRAME_OCTETS, HEADER_OCTETS, SLOTS, SLOT_OCTETS};
+use s3frame::{FrameState, Place, SlotRead, FRAME_OCTETS, HEADER_OCTETS, MOST_SOURCE, SLOTS, SLOT_OCTETS};
 
-/// Everything that is told of the frames: lines, and a JSON document and a picture where they are asked for.
-struct Account {
-    report: Report,
-    json: Option<Json>,
-    picture: Option<(Rows, Output)>,
-    frames: u64,
-    total: Tally,
-}
+/// Where the data octets of slots go: packets of some kind.
+pub trait Delivery {
+    /// What is counted of them.
+    type Carried: Carried;
 
-/// What was found in one frame.
-struct Found {
-    tally: Tally,
-    refused: Vec<Refused>,
-    row: Row,
+    /// Takes the data octets of a slot that was accepted.
+    fn accepted(&mut self, place: &Place, data: &[u8]) -> Result<(), Failure>;
+
+    /// Takes note of a slot that was refused, and says how much it lost.
+    fn refused(&mut self, place: &Place) -> usize;
+
+    /// Writes all packets that the frame brought, and says what it carried.
+    fn end_frame(&mut self) -> Result<Self::Carried, Failure>;
+
+    /// Looks at what only the end shows, where the frames were not cut.
+    fn end(&mut self) -> Result<(), Failure>;
+
+    /// The file of the packets.
+    fn output(self) -> Output;
 }
 
 /// Frames that are read: the files, and the areas that every slot uses again.
-struct Monitor {
+struct Monitor<D> {
     layout: Layout,
     input: Input,
-    packets: Output,
+    delivery: D,
     headers: Option<Output>,
     frame: Vec<u8>,
-    header: [u8; HEADER_OCTETS],
-    area: Vec<u8>,
+    source: [u8; MOST_SOURCE],
 }
 
 /// Reads all frames of the input.
@@ -46,65 +48,36 @@ pub fn run(words: &MonitorWords) -> Result<Outcome, Failure> {
     let mut files = Files::default();
     let layout = Layout::open(&mut files, &words.settings)?;
     let input = files.open(words.input.as_deref(), Content::Binary)?;
-    let packets = files.create(words.output.as_deref(), Content::Binary)?;
+    if words.tlv {
+        let delivery = TlvDelivery::open(&mut files, words, &layout)?;
+        read(files, words, layout, input, delivery)
+    } else {
+        let delivery = TsDelivery::open(&mut files, words, &layout)?;
+        read(files, words, layout, input, delivery)
+    }
+}
+
+fn read<D: Delivery>(
+    mut files: Files,
+    words: &MonitorWords,
+    layout: Layout,
+    input: Input,
+    delivery: D,
+) -> Result<Outcome, Failure> {
     let headers = files.create_named(words.headers.as_deref(), Content::Binary)?;
     let mut account = Account::open(&mut files, words, &layout)?;
-    let mut monitor = Monitor::new(layout, input, packets, headers);
+    let (frame, source) = (vec![0; FRAME_OCTETS], [0; MOST_SOURCE]);
+    let mut monitor = Monitor { layout, input, delivery, headers, frame, source };
     let left_over = monitor.read_all(&mut account)?;
     let found = account.total.refused() > 0;
     let told = account.end(left_over)?;
-    outputs::keep([Some(monitor.packets), monitor.headers].into_iter().flatten().chain(told))?;
+    outputs::keep([Some(monitor.delivery.output()), monitor.headers].into_iter().flatten().chain(told))?;
     Ok(Outcome::new(found).left_over(monitor.input.name(), "frame", left_over))
 }
 
-impl Account {
-    /// An account of no frame yet. It takes the last of the run's files.
-    fn open(files: &mut Files, words: &MonitorWords, layout: &Layout) -> Result<Account, Failure> {
-        let json = files.create_named(words.json.as_deref(), Content::Text)?;
-        let json = json.map(|output| Json::begin(output, &layout.opened)).transpose()?;
-        let picture = files.create_named(words.svg.as_deref(), Content::Text)?.map(|output| (Rows::new(), output));
-        let report = files.report()?;
-        Ok(Account { report, json, picture, frames: 0, total: Tally::default() })
-    }
-
-    /// Tells of a frame.
-    fn frame(&mut self, found: &Found, progress: &Progress) -> Result<(), Failure> {
-        self.frames += 1;
-        self.total += found.tally;
-        let (frame, report) = (self.frames, &mut self.report);
-        progress.aside(|| {
-            found.refused.iter().try_for_each(|refused| report.line(format_args!("frame {frame} {refused}")))?;
-            report.line(format_args!("frame {frame} {}", found.tally))
-        })?;
-        if let Some((rows, _)) = &mut self.picture {
-            rows.add(&found.row);
-        }
-        self.json.as_mut().map_or(Ok(()), |json| json.frame(frame, found.tally, &found.refused))
-    }
-
-    /// Tells of all frames, and hands back the files that this filled.
-    fn end(mut self, left_over: usize) -> Result<Vec<Output>, Failure> {
-        self.report.line(format_args!("frames {} {}", self.frames, self.total))?;
-        let mut outputs = Vec::new();
-        if let Some(json) = self.json {
-            outputs.push(json.end(self.frames, self.total, left_over)?);
-        }
-        if let Some((rows, mut output)) = self.picture {
-            output.write(picture::of_frames(&rows).as_bytes())?;
-            outputs.push(output);
-        }
-        Ok(outputs)
-    }
-}
-
-impl Monitor {
-    fn new(layout: Layout, input: Input, packets: Output, headers: Option<Output>) -> Monitor {
-        let (frame, header, area) = (vec![0; FRAME_OCTETS], [0; HEADER_OCTETS], layout.packet_area());
-        Monitor { layout, input, packets, headers, frame, header, area }
-    }
-
+impl<D: Delivery> Monitor<D> {
     /// Reads frames until the input ends, and says how many octets are left over behind the last whole one.
-    fn read_all(&mut self, account: &mut Account) -> Result<usize, Failure> {
+    fn read_all(&mut self, account: &mut Account<D::Carried>) -> Result<usize, Failure> {
         let progress = Progress::new(self.input.octets());
         let mut octets = self.input.fill(&mut self.frame)?;
         while octets == FRAME_OCTETS {
@@ -116,49 +89,52 @@ impl Monitor {
         if account.frames == 0 {
             return Err(Failure::without(self.input.name(), "frame", octets));
         }
+        if octets == 0 {
+            self.delivery.end()?;
+        }
         Ok(octets)
     }
 
-    /// Reads the slots of a frame, and writes the packets of those that are accepted.
-    fn read_frame(&mut self) -> Result<Found, Failure> {
-        let mut found = Found { tally: Tally::default(), refused: Vec::new(), row: [Answer::Dummy; SLOTS] };
+    /// Reads the slots of a frame, and delivers what they carry.
+    fn read_frame(&mut self) -> Result<Found<D::Carried>, Failure> {
+        let mut found = Found::new();
         let mut state = self.layout.opened;
         for slot in 0..SLOTS {
             let place = self.layout.places[slot];
             let answer = if place.data {
                 let read = self.read_slot(state, slot, &place);
                 state = read.state;
-                self.packets_of(slot, &place, read, &mut found)?
+                self.deliver(slot, &place, read, &mut found)?
             } else {
                 state = state.pass().expect("a state moves on by the plan's places");
                 Answer::Dummy
             };
-            found.tally.answered(answer);
-            found.row[slot] = answer;
+            found.answered(slot, answer);
         }
-        self.packets.flush()?;
+        found.tally.carried = self.delivery.end_frame()?;
         Ok(found)
     }
 
     fn read_slot(&mut self, state: FrameState, slot: usize, place: &Place) -> SlotRead {
         let coded = &self.frame[SLOT_OCTETS * slot..SLOT_OCTETS * (slot + 1)];
-        let packets = &mut self.area[..place.rate.packet_octets()];
-        state.read_packets(self.layout.table(place), coded, &mut self.header, packets)
+        state.read_slot(self.layout.table(place), coded, &mut self.source[..place.rate.source_octets()])
     }
 
-    /// Writes header and packets of a data slot that was accepted, or notes what it lost.
-    fn packets_of(&mut self, slot: usize, place: &Place, read: SlotRead, found: &mut Found) -> Result<Answer, Failure> {
-        let count = place.rate.packets();
-        found.tally.planned(count);
+    /// Delivers header and data of a data slot that was accepted, or notes what it lost.
+    fn deliver(
+        &mut self,
+        slot: usize,
+        place: &Place,
+        read: SlotRead,
+        found: &mut Found<D::Carried>,
+    ) -> Result<Answer, Failure> {
         if let Err(refusal) = read.answer {
-            found.tally.lost(count);
-            found.refused.push(Refused::new(slot + 1, refusal, count));
+            found.refused(Refused::new(slot + 1, refusal, self.delivery.refused(place)));
             return Ok(Answer::of(refusal));
         }
-        let packets = &self.area[..place.rate.packet_octets()];
-        self.packets.write(packets)?;
-        found.tally.written(count, count_null(packets));
-        self.headers.as_mut().map_or(Ok(()), |headers| headers.write(&self.header))?;
+        let (header, data) = self.source[..place.rate.source_octets()].split_at(HEADER_OCTETS);
+        self.delivery.accepted(place, data)?;
+        self.headers.as_mut().map_or(Ok(()), |headers| headers.write(header))?;
         Ok(Answer::Accepted)
     }
 }

@@ -18,7 +18,7 @@ pub struct Run {
 /// Lists a plan.
 pub fn run(words: &PlanWords) -> Result<Outcome, Failure> {
     let mut files = Files::default();
-    let plan = read_plan(&mut files, &words.plan)?;
+    let (plan, _) = read_plan(&mut files, &words.plan)?;
     let picture = files.create_named(words.svg.as_deref(), Content::Text)?;
     let mut report = files.report()?;
     let places = places(&plan);

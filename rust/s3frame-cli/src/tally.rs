@@ -1,4 +1,4 @@
-//! What becomes of the slots of frames and of their packets, counted.
+//! What becomes of the slots of frames and of what they carry, counted.
 use s3frame::Refusal;
 use serde::Serialize;
 use std::fmt::{self, Display};
@@ -26,23 +26,23 @@ impl Answer {
     }
 }
 
-/// Slots by answer; and packets: those that the plan carries, those that were written, those of refused slots, each counted
-/// for itself, and the null packets among those written.
+/// What frames carried, counted by the kind of their packets: every number behind its name.
+pub trait Carried: AddAssign + Copy + Default + Display + Serialize {}
+
+/// Slots by answer, and what they carried.
 #[derive(Clone, Copy, Default, Debug, PartialEq, Eq, Serialize)]
-pub struct Tally {
+pub struct Tally<C> {
     accepted: u64,
     dummy: u64,
     parity: u64,
     #[serde(rename = "BCH")]
     bch: u64,
     stuff: u64,
-    planned: u64,
-    written: u64,
-    lost: u64,
-    null: u64,
+    #[serde(flatten)]
+    pub carried: C,
 }
 
-/// A slot that was refused, with the packets that its plan has it carry.
+/// A slot that was refused, with what it lost: the packets that its plan has it carry or, of TLV packets, its octets.
 #[derive(Clone, Copy, Debug, PartialEq, Eq, Serialize)]
 pub struct Refused {
     slot: usize,
@@ -57,7 +57,7 @@ impl Refused {
     }
 }
 
-impl Tally {
+impl<C> Tally<C> {
     /// Counts a slot by its answer.
     pub fn answered(&mut self, answer: Answer) {
         let count = match answer {
@@ -70,48 +70,28 @@ impl Tally {
         *count += 1;
     }
 
-    /// Counts packets that the plan has a slot carry.
-    pub fn planned(&mut self, packets: usize) {
-        self.planned += packets as u64;
-    }
-
-    /// Counts packets that were written, with the null packets among them.
-    pub fn written(&mut self, packets: usize, null: usize) {
-        self.written += packets as u64;
-        self.null += null as u64;
-    }
-
-    /// Counts packets of a refused slot.
-    pub fn lost(&mut self, packets: usize) {
-        self.lost += packets as u64;
-    }
-
     /// How many slots were refused.
     pub fn refused(&self) -> u64 {
         self.parity + self.bch + self.stuff
     }
 }
 
-impl AddAssign for Tally {
-    fn add_assign(&mut self, other: Tally) {
+impl<C: Carried> AddAssign for Tally<C> {
+    fn add_assign(&mut self, other: Tally<C>) {
         self.accepted += other.accepted;
         self.dummy += other.dummy;
         self.parity += other.parity;
         self.bch += other.bch;
         self.stuff += other.stuff;
-        self.planned += other.planned;
-        self.written += other.written;
-        self.lost += other.lost;
-        self.null += other.null;
+        self.carried += other.carried;
     }
 }
 
 /// Every number behind its name, as `accepted 94 dummy 26 ..`.
-impl Display for Tally {
+impl<C: Carried> Display for Tally<C> {
     fn fmt(&self, to: &mut fmt::Formatter) -> fmt::Result {
-        let Tally { accepted, dummy, parity, bch, stuff, planned, written, lost, null } = self;
-        write!(to, "accepted {accepted} dummy {dummy} parity {parity} BCH {bch} stuff {stuff} ")?;
-        write!(to, "planned {planned} written {written} lost {lost} null {null}")
+        let Tally { accepted, dummy, parity, bch, stuff, carried } = self;
+        write!(to, "accepted {accepted} dummy {dummy} parity {parity} BCH {bch} stuff {stuff} {carried}")
     }
 }
 

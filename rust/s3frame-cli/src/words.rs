@@ -7,8 +7,8 @@ use std::str::FromStr;
 const STATUS: &str = "\
 EXIT STATUS
   0  all is well
-  1  slots are refused, lists differ, or a stream ends inside a packet or a frame
-  2  wrong use, a file that cannot be read or written, a refused plan or setting;
+  1  slots are refused, lists differ, or an input ends inside a packet or a frame
+  2  wrong use, a file that cannot be read, written or used, a refused plan or setting;
      no file is left
 
 A run that is interrupted (SIGHUP, SIGINT, SIGTERM) ends by the signal, and leaves no file.";
@@ -35,14 +35,27 @@ PLAN
 
 const FRAME_FORM: &str = "\
 FILES
-  Packets are TS packets of 188 octets, end to end, each beginning 0x47. A frame has 673,200
-  octets: 120 slots of 5,610. Headers are 22 octets for each data slot, in the order of the
-  slots. The parity tables are the published ones.
+  Packets are TS packets of 188 octets, end to end, each beginning 0x47, or with --tlv TLV
+  packets. A frame has 673,200 octets: 120 slots of 5,610. Headers are 22 octets for each data
+  slot, in the order of the slots. The parity tables are the published ones.
 
   `-`, or no name, is standard input or output. A file that is made gets its name once it is
   whole; until then an earlier file of that name stays. No output may be an input, or another
   output. The report goes to standard output or, where an output stands there, to standard
   error.";
+
+const TLV_FORM: &str = "\
+TLV
+  With --tlv packets are TLV packets, end to end: 0x7F, a type octet (0x01, 0x02, 0x03, 0xFE or
+  0xFF), a length of two octets, high octet first, and a body of that length; the body of a null
+  packet, type 0xFF, is all 0xFF. The plan has one group. Packets run on from slot to slot and
+  from frame to frame. Empty null packets (7F FF 00 00) fill the last frame; in reading all of
+  them are left out, also those that were among the packets.
+
+  Each data slot has a report: the octet of its data, counted from 0, where the first packet
+  begins, or 65535 where none does. By it reading goes on behind a slot that is refused. The
+  reports are a file beside the frames, under their name with `.begins` behind it or the name
+  behind --begins: two octets for each data slot, in the order of the slots, high octet first.";
 
 const JSON_FORM: &str = "\
 JSON
@@ -55,7 +68,7 @@ fn page(sections: &[&str]) -> String {
     sections.join("\n\n")
 }
 
-/// Codes TS packets into ISDB-S3 frames, and reads frames back
+/// Codes TS or TLV packets into ISDB-S3 frames, and reads frames back
 ///
 /// The work on slots is done by functions that are proved against the Ministry's technical conditions: BCH, dispersal, LDPC
 /// parity, and every check on the way back.
@@ -119,18 +132,27 @@ pub struct SettingWords {
     pub start: Number,
 }
 
-/// Codes TS packets into frames
+/// Codes TS or TLV packets into frames
 ///
 /// Puts the packets into the data slots of as many frames as they need. Null packets fill the last frame, dummies are zeros.
-/// The last line says how many frames there are, how many packets they carry, and how many null packets behind these.
+/// The last line says how many frames there are, how many packets they carry, and how many null packets behind these; for
+/// TLV packets instead how many octets the packets have, and how many octets of empty null packets fill up behind them.
 ///
-/// A packet that does not begin 0x47 is refused. Where the packets end inside one, what came before it is coded.
+/// A packet that does not begin 0x47, or a TLV packet of another form, is refused. Where the packets end inside one, what
+/// came before it is coded.
 #[derive(Args)]
-#[command(after_long_help = page(&[PLAN_FORM, FRAME_FORM, STATUS,
-    "EXAMPLE\n  s3frame code --plan plan.txt --mask 0x1234567 --start 1 sent.ts -o frames"]))]
+#[command(after_long_help = page(&[PLAN_FORM, FRAME_FORM, TLV_FORM, STATUS,
+    "EXAMPLE\n  s3frame code --plan plan.txt --mask 0x1234567 --start 1 sent.ts -o frames\n  \
+     s3frame code --tlv --plan one-group.txt --mask 0x1234567 --start 1 sent.tlv -o frames"]))]
 pub struct CodeWords {
     #[command(flatten)]
     pub settings: SettingWords,
+    /// The packets are TLV packets
+    #[arg(long)]
+    pub tlv: bool,
+    /// Writes the reports of the slots into this file; without it their name is OUTPUT's with .begins behind
+    #[arg(long, value_name = "FILE", requires = "tlv")]
+    pub begins: Option<PathBuf>,
     /// The headers of the data slots; without it they are zeros
     #[arg(long, value_name = "FILE")]
     pub headers: Option<PathBuf>,
@@ -148,13 +170,24 @@ pub struct CodeWords {
 /// carries, those that were written, those of refused slots, each counted for itself, and the null packets among those
 /// written; and such a line for all frames. Frames and slots are counted from 1.
 ///
+/// Of TLV packets these lines have how many were written, their octets, the data octets of refused slots, and the octets so
+/// far of a packet that goes on in the next frame. Behind the last frame such a packet is not written; an empty null packet
+/// that is cut there does not count.
+///
 /// Where the frames end inside one, those before it are read.
 #[derive(Args)]
-#[command(after_long_help = page(&[PLAN_FORM, FRAME_FORM, JSON_FORM, STATUS,
-    "EXAMPLE\n  s3frame monitor --plan plan.txt --mask 0x1234567 --start 1 frames -o back.ts --svg slots.svg"]))]
+#[command(after_long_help = page(&[PLAN_FORM, FRAME_FORM, TLV_FORM, JSON_FORM, STATUS,
+    "EXAMPLE\n  s3frame monitor --plan plan.txt --mask 0x1234567 --start 1 frames -o back.ts --svg slots.svg\n  \
+     s3frame monitor --tlv --plan one-group.txt --mask 0x1234567 --start 1 frames -o back.tlv"]))]
 pub struct MonitorWords {
     #[command(flatten)]
     pub settings: SettingWords,
+    /// The packets are TLV packets
+    #[arg(long)]
+    pub tlv: bool,
+    /// Reads the reports of the slots from this file; without it their name is INPUT's with .begins behind
+    #[arg(long, value_name = "FILE", requires = "tlv")]
+    pub begins: Option<PathBuf>,
     /// The frames; standard input without it
     pub input: Option<PathBuf>,
     /// The packets; standard output without it
@@ -171,7 +204,7 @@ pub struct MonitorWords {
     pub svg: Option<PathBuf>,
 }
 
-/// Compares two lists of packets
+/// Compares two lists of TS packets
 ///
 /// Says how many packets each list has, how many agree from the front and, behind those, from the end; and then which
 /// packets between are in one list only, as runs with their numbers, counted from 0, and how many of them are null packets:

@@ -5,8 +5,8 @@
 //! them, and always return. So each call below is sound for any arguments, and the compiler sees to it that no slice that is
 //! written overlaps another.
 //!
-//! A plan is lent as three octets for each group: modulation, rate, slots. `next` takes two numbers, the next slot and its
-//! register. Each call's numbers are listed in the order in which they are tested; slot number 0 is 1 wherever a slot is
+//! A plan is lent as three octets for each group: modulation, rate, slots. `next` takes two numbers: of a slot call the next
+//! slot and its register, of a TLV call what it says. Each call's numbers are listed in the order in which they are tested; slot number 0 is 1 wherever a slot is
 //! named.
 
 extern "C" {
@@ -162,6 +162,33 @@ extern "C" {
         packets: *mut u8,
         packets_length: usize,
         next: *mut u32,
+        next_length: usize,
+    ) -> u32;
+    fn s3_tlv_fill(
+        rate: u32,
+        packets: *const u8,
+        packets_length: usize,
+        taken: u64,
+        owed: u32,
+        slots: *mut u8,
+        slots_length: usize,
+        begins: *mut u16,
+        begins_length: usize,
+        next: *mut u64,
+        next_length: usize,
+    ) -> u32;
+    fn s3_tlv_read(
+        rate: u32,
+        slots: *const u8,
+        slots_length: usize,
+        begins: *const u16,
+        begins_length: usize,
+        lost: *const u8,
+        lost_length: usize,
+        first: u32,
+        packets: *mut u8,
+        packets_length: usize,
+        next: *mut u64,
         next_length: usize,
     ) -> u32;
 }
@@ -437,4 +464,61 @@ pub fn published_tables(plan: &[u8], tables: &mut [u16]) -> u32 {
 /// zeros into a `place` of four numbers. Numbers: 1, 13, 14, 15, 3, 4.
 pub fn place(plan: &[u8], slot: u32, place: &mut [u32]) -> u32 {
     unsafe { s3_place(plan.as_ptr(), plan.len(), slot, place.as_mut_ptr(), place.len()) }
+}
+
+/// Fills data octets with TLV packets. Every answer writes a `next` of two numbers: octets taken in all, octets of a cut
+/// filler that are owed; zeros with a refusal. Numbers: 1, 4, 16.
+pub fn tlv_fill(
+    rate: u32,
+    packets: &[u8],
+    taken: u64,
+    owed: u32,
+    slots: &mut [u8],
+    begins: &mut [u16],
+    next: &mut [u64],
+) -> u32 {
+    unsafe {
+        s3_tlv_fill(
+            rate,
+            packets.as_ptr(),
+            packets.len(),
+            taken,
+            owed,
+            slots.as_mut_ptr(),
+            slots.len(),
+            begins.as_mut_ptr(),
+            begins.len(),
+            next.as_mut_ptr(),
+            next.len(),
+        )
+    }
+}
+
+/// Reads TLV packets from data octets. Every answer writes a `next` of two numbers: octets written, where the unfinished one
+/// begins; zeros with a refusal. Numbers: 1, 4.
+pub fn tlv_read(
+    rate: u32,
+    slots: &[u8],
+    begins: &[u16],
+    lost: &[u8],
+    first: u32,
+    packets: &mut [u8],
+    next: &mut [u64],
+) -> u32 {
+    unsafe {
+        s3_tlv_read(
+            rate,
+            slots.as_ptr(),
+            slots.len(),
+            begins.as_ptr(),
+            begins.len(),
+            lost.as_ptr(),
+            lost.len(),
+            first,
+            packets.as_mut_ptr(),
+            packets.len(),
+            next.as_mut_ptr(),
+            next.len(),
+        )
+    }
 }

@@ -42,6 +42,7 @@ mod rate;
 mod refusal;
 mod state;
 mod symbols;
+mod tlv;
 mod tmcc;
 
 pub use frame::{code_frame, read_frame, FrameRead, SlotAnswer};
@@ -56,4 +57,5 @@ pub use rate::Rate;
 pub use refusal::Refusal;
 pub use state::{check_parity, FrameState, SlotRead, SlotSettings};
 pub use symbols::{labels, slot_of_labels, tmcc_labels, tmcc_of_labels};
+pub use tlv::{fill_tlv, read_tlv, TlvFilled, TlvRead, NO_BEGIN};
 pub use tmcc::{code_tmcc, read_tmcc, TmccSettings};

@@ -22,6 +22,7 @@ numbered! {
         Value = 13 "a group's modulation or rate is unknown, or its slots are 0 or no multiple of 5",
         Order = 14 "the groups do not fall: higher modulations come first and, within one, higher rates",
         Total = 15 "the slots of all groups do not add to 120",
+        Packet = 16 "a TLV head is wrong, a null body holds another octet, or a head or length runs past the packets",
     }
 }
 
@@ -44,6 +45,7 @@ impl Refusal {
             Refusal::Value => "value",
             Refusal::Order => "order",
             Refusal::Total => "total",
+            Refusal::Packet => "packet",
         }
     }
 }
@@ -71,7 +73,7 @@ mod tests {
 
     #[test]
     fn the_numbers_and_words_of_the_documents() {
-        let words = "plan dummy full length table register sync parity BCH stuff tail label value order total";
+        let words = "plan dummy full length table register sync parity BCH stuff tail label value order total packet";
         let words: Vec<&str> = words.split(' ').collect();
         assert_eq!(words.len(), Refusal::ALL.len());
         for (number, word) in (1..).zip(words) {
@@ -79,7 +81,7 @@ mod tests {
             assert_eq!((refusal.number(), refusal.word()), (number, word));
             assert_eq!(answer(number), Err(refusal));
         }
-        assert_eq!([Refusal::from_number(0), Refusal::from_number(16)], [None, None]);
+        assert_eq!([Refusal::from_number(0), Refusal::from_number(17)], [None, None]);
         assert_eq!(answer(0), Ok(()));
     }
 

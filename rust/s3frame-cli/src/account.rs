@@ -1,0 +1,87 @@
+//! Everything that is told of frames that are read: lines, and a JSON document and a picture where they are asked for.
+use crate::failure::Failure;
+use crate::files::{Content, Files};
+use crate::frames::Layout;
+use crate::json::Json;
+use crate::outputs::Output;
+use crate::picture;
+use crate::progress::Progress;
+use crate::report::Report;
+use crate::rows::{Row, Rows};
+use crate::tally::{Answer, Carried, Refused, Tally};
+use crate::words::MonitorWords;
+use s3frame::SLOTS;
+
+/// What was found in one frame.
+pub struct Found<C> {
+    pub tally: Tally<C>,
+    refused: Vec<Refused>,
+    row: Row,
+}
+
+impl<C: Carried> Found<C> {
+    /// Nothing yet.
+    pub fn new() -> Found<C> {
+        Found { tally: Tally::default(), refused: Vec::new(), row: [Answer::Dummy; SLOTS] }
+    }
+
+    /// Notes what became of a slot, counted from 0.
+    pub fn answered(&mut self, slot: usize, answer: Answer) {
+        self.tally.answered(answer);
+        self.row[slot] = answer;
+    }
+
+    /// Notes what a refused slot lost.
+    pub fn refused(&mut self, refused: Refused) {
+        self.refused.push(refused);
+    }
+}
+
+/// What is told, how many frames were told of, and the sums of all.
+pub struct Account<C> {
+    report: Report,
+    json: Option<Json>,
+    picture: Option<(Rows, Output)>,
+    pub frames: u64,
+    pub total: Tally<C>,
+}
+
+impl<C: Carried> Account<C> {
+    /// An account of no frame yet. It takes the last of the run's files.
+    pub fn open(files: &mut Files, words: &MonitorWords, layout: &Layout) -> Result<Account<C>, Failure> {
+        let json = files.create_named(words.json.as_deref(), Content::Text)?;
+        let json = json.map(|output| Json::begin(output, &layout.opened)).transpose()?;
+        let picture = files.create_named(words.svg.as_deref(), Content::Text)?.map(|output| (Rows::new(), output));
+        let report = files.report()?;
+        Ok(Account { report, json, picture, frames: 0, total: Tally::default() })
+    }
+
+    /// Tells of a frame.
+    pub fn frame(&mut self, found: &Found<C>, progress: &Progress) -> Result<(), Failure> {
+        self.frames += 1;
+        self.total += found.tally;
+        let (frame, report) = (self.frames, &mut self.report);
+        progress.aside(|| {
+            found.refused.iter().try_for_each(|refused| report.line(format_args!("frame {frame} {refused}")))?;
+            report.line(format_args!("frame {frame} {}", found.tally))
+        })?;
+        if let Some((rows, _)) = &mut self.picture {
+            rows.add(&found.row);
+        }
+        self.json.as_mut().map_or(Ok(()), |json| json.frame(frame, found.tally, &found.refused))
+    }
+
+    /// Tells of all frames, and hands back the files that this filled.
+    pub fn end(mut self, left_over: usize) -> Result<Vec<Output>, Failure> {
+        self.report.line(format_args!("frames {} {}", self.frames, self.total))?;
+        let mut outputs = Vec::new();
+        if let Some(json) = self.json {
+            outputs.push(json.end(self.frames, self.total, left_over)?);
+        }
+        if let Some((rows, mut output)) = self.picture {
+            output.write(picture::of_frames(&rows).as_bytes())?;
+            outputs.push(output);
+        }
+        Ok(outputs)
+    }
+}
