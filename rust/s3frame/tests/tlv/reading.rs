@@ -1,0 +1,198 @@
+//! Reading slots that were filled, of which some may be lost.
+use crate::common::tlv::{Counts, Piece, Stream, FILLER};
+use crate::common::Random;
+use crate::{cut, filled_stream, streams, Slots, CUTS};
+use s3frame::{read_tlv, Rate, TlvRead, NO_BEGIN};
+
+/// Slots as they are received.
+#[derive(Clone)]
+pub struct Received {
+    pub rate: Rate,
+    pub slots: Vec<u8>,
+    pub begins: Vec<u16>,
+    pub lost: Vec<bool>,
+    pub first: Option<u16>,
+}
+
+impl Received {
+    /// All that was filled, from the first reported beginning on.
+    pub fn new(rate: Rate, (slots, begins): Slots) -> Received {
+        let lost = vec![false; begins.len()];
+        Received { rate, slots, begins, lost, first: None }
+    }
+
+    /// Reads both ways; answers and areas must be the same. Gives the packets, and where the unfinished one begins.
+    pub fn read(&self, random: &mut Random) -> (Vec<u8>, Option<usize>) {
+        let found = random.octets(self.slots.len());
+        let [mut ours, mut theirs] = [found.clone(), found.clone()];
+        let marks: Vec<u8> = self.lost.iter().map(|&lost| lost.into()).collect();
+        let first = self.first.map_or(65_535, u32::from);
+        let mut next = [7, 7];
+        let (slots, begins) = (&self.slots, &self.begins);
+        let expected = reference::tlv::read(self.rate as usize, slots, begins, &marks, first, &mut theirs, &mut next);
+        assert_eq!(expected, 0);
+        let [written, begin] = next.map(|number| number as usize);
+        let unfinished = (begin < slots.len()).then_some(begin);
+        let answer = read_tlv(self.rate, slots, begins, &self.lost, self.first, &mut ours);
+        assert_eq!(answer, Ok(TlvRead { written, unfinished }));
+        assert!(ours == theirs && ours[written..] == found[written..], "the packets differ");
+        ours.truncate(written);
+        (ours, unfinished)
+    }
+
+    /// Marks slots as lost: none, one, some or all.
+    pub fn lose(&mut self, random: &mut Random) {
+        let count = self.lost.len();
+        match random.below(8) {
+            0 => (),
+            1 => self.lost.fill(true),
+            2 => self.lost.iter_mut().for_each(|lost| *lost = random.chance(2)),
+            3 => self.lost[0] = true,
+            4 => self.lost[count - 1] = true,
+            _ => self.lost[random.below(count)] = true,
+        }
+    }
+
+    /// Puts octets of chance into lost slots.
+    pub fn spoil_lost(&mut self, random: &mut Random) {
+        let data = self.rate.data_octets();
+        for (slot, _) in self.slots.chunks_mut(data).zip(&self.lost).filter(|(_, &lost)| lost) {
+            slot.copy_from_slice(&random.source(data));
+        }
+    }
+}
+
+/// The packets that must be read of a stream with slots lost, and where the unfinished one begins.
+fn expected(stream: &Stream, lost: &[bool]) -> (Vec<u8>, Option<usize>) {
+    let pieces = stream.pieces();
+    let sound = || pieces.iter().filter(|piece| !piece.touches(stream.data(), lost));
+    let whole = sound().filter(|piece| piece.end() <= stream.room() && piece.octets != FILLER);
+    let cut = sound().find(|piece| piece.end() > stream.room());
+    (whole.flat_map(|piece| piece.octets.clone()).collect(), cut.map(|piece| piece.at))
+}
+
+#[test]
+fn what_was_filled_is_read_but_for_what_touches_a_lost_slot() {
+    let mut random = Random::new(94);
+    let (mut lost_at, mut ends, mut kinds) = (Counts::default(), Counts::default(), Counts::default());
+    streams(&mut random, 400, |random, stream| {
+        let mut received = Received::new(stream.rate, filled_stream(random, &stream).1);
+        received.lose(random);
+        received.spoil_lost(random);
+        received.first = random.pick(&[None, Some(received.begins[0]), Some(NO_BEGIN)]);
+        let (packets, unfinished) = received.read(random);
+        assert!((packets.clone(), unfinished) == expected(&stream, &received.lost));
+
+        let pieces = stream.pieces();
+        for (slot, _) in received.lost.iter().enumerate().skip(1).filter(|(_, &lost)| lost) {
+            lost_at.add(cut(&pieces, slot * stream.data()));
+        }
+        ends.add_if(unfinished.is_some(), cut(&pieces, stream.room()));
+        kinds.add_if(!received.lost.contains(&true), "nothing lost");
+        kinds.add_if(!received.lost.contains(&false), "all lost");
+        kinds.add_if(received.lost[0] && !packets.is_empty(), "packets behind a lost first slot");
+        kinds.add_if(received.lost[stream.slots - 1] && !packets.is_empty(), "packets before a lost last slot");
+        let own = |piece: &Piece| piece.octets == FILLER && piece.at < stream.room() - 4;
+        kinds.add_if(pieces.iter().any(own) && !packets.is_empty(), "empty nulls left out");
+        let broken = |piece: &Piece| piece.end() > stream.room() && piece.touches(stream.data(), &received.lost);
+        kinds.add_if(pieces.iter().any(|piece| broken(piece) && !received.lost[stream.slots - 1]), "lost and cut");
+    });
+    lost_at.are(&CUTS);
+    ends.are(&CUTS[1..]);
+    kinds.are(&[
+        "nothing lost",
+        "all lost",
+        "packets behind a lost first slot",
+        "packets before a lost last slot",
+        "empty nulls left out",
+        "lost and cut",
+    ]);
+}
+
+/// Overwrites what is seen of pieces that are not whole, and says what they were. Of a whole head the body alone is
+/// overwritten, since the head says how far it reaches.
+fn spoil_broken(random: &mut Random, stream: &Stream, received: &mut Received, kinds: &mut Counts) {
+    for piece in stream.pieces() {
+        let head = Piece { at: piece.at, octets: piece.octets[..4].to_vec() };
+        let whole = |piece: &Piece| piece.end() <= stream.room() && !piece.touches(stream.data(), &received.lost);
+        if whole(&piece) {
+            continue;
+        }
+        let lost = piece.touches(stream.data(), &received.lost);
+        kinds.add(match (whole(&head), lost, piece.is_null()) {
+            (false, false, _) => "head cut by the end",
+            (false, true, _) => "head that meets a lost slot",
+            (true, false, false) => "body cut by the end",
+            (true, false, true) => "null cut by the end",
+            (true, true, false) => "body that meets a lost slot",
+            (true, true, true) => "null that meets a lost slot",
+        });
+        let from = if whole(&head) { head.end() } else { piece.at };
+        let seen = &mut received.slots[from..piece.end().min(stream.room())];
+        seen.copy_from_slice(&random.source(seen.len()));
+    }
+}
+
+#[test]
+fn what_is_not_whole_is_not_judged() {
+    let mut random = Random::new(95);
+    let mut kinds = Counts::default();
+    streams(&mut random, 120, |random, stream| {
+        let mut received = Received::new(stream.rate, filled_stream(random, &stream).1);
+        received.lose(random);
+        spoil_broken(random, &stream, &mut received, &mut kinds);
+        // Nor is what stands before the first beginning: the rest of a packet or filler that was begun before.
+        let begun = stream.pieces().first().map_or(stream.room(), |piece| piece.at);
+        kinds.add_if(begun > 0, "rest of what was begun before");
+        received.slots[..begun].copy_from_slice(&random.source(begun));
+        assert!(received.read(random) == expected(&stream, &received.lost));
+    });
+    kinds.are(&[
+        "head cut by the end",
+        "head that meets a lost slot",
+        "body cut by the end",
+        "null cut by the end",
+        "body that meets a lost slot",
+        "null that meets a lost slot",
+        "rest of what was begun before",
+    ]);
+}
+
+/// Reads slots in two calls: what the first leaves unfinished is lent again, from the slot where it begins.
+fn read_in_two(random: &mut Random, all: &Received, before: usize) -> (Vec<u8>, Option<usize>) {
+    let data = all.rate.data_octets();
+    let part = |from: usize, to: usize, first: Option<u16>| Received {
+        rate: all.rate,
+        slots: all.slots[from * data..to * data].to_vec(),
+        begins: all.begins[from..to].to_vec(),
+        lost: all.lost[from..to].to_vec(),
+        first,
+    };
+    let (packets, unfinished) = part(0, before, None).read(random);
+    let from = unfinished.map_or(before, |at| at / data);
+    let first = unfinished.map(|at| (at % data) as u16);
+    let (more, unfinished) = part(from, all.begins.len(), first).read(random);
+    ([packets, more].concat(), unfinished.map(|at| from * data + at))
+}
+
+#[test]
+fn reading_in_two_calls_is_reading_once() {
+    let mut random = Random::new(96);
+    let (mut cuts, mut kinds) = (Counts::default(), Counts::default());
+    streams(&mut random, 150, |random, stream| {
+        if stream.slots == 1 {
+            return;
+        }
+        let mut received = Received::new(stream.rate, filled_stream(random, &stream).1);
+        received.lose(random);
+        let before = 1 + random.below(stream.slots - 1);
+        let (packets, unfinished) = read_in_two(random, &received, before);
+        assert!((packets, unfinished) == expected(&stream, &received.lost));
+        cuts.add(cut(&stream.pieces(), before * stream.data()));
+        kinds.add_if(received.lost[before - 1], "loss before");
+        kinds.add_if(received.lost[before], "loss behind");
+        kinds.add_if(!received.lost.contains(&true), "nothing lost");
+    });
+    cuts.are(&CUTS);
+    kinds.are(&["loss before", "loss behind", "nothing lost"]);
+}
