@@ -114,7 +114,7 @@ fn fill_with(random: &mut Random, faults: &Faults, lengths: &[&Way<Filling>], wr
 
 #[test]
 fn filling() {
-    let mut random = Random::new(81);
+    let mut random = Random::new(69);
     for faults in choices(&[1, 4, 16], trials(1)) {
         let lengths = if faults.has(4) { alone_and_in_pairs(FILLING) } else { vec![vec![]] };
         let wrong = if faults.has(16) { PACKET_FAULTS.map(Some).to_vec() } else { vec![None] };
@@ -229,7 +229,7 @@ fn read_with(random: &mut Random, faults: &Faults, lengths: &[&Way<Reading>]) {
 
 #[test]
 fn reading() {
-    let mut random = Random::new(82);
+    let mut random = Random::new(70);
     for faults in choices(&[1, 4], trials(1)) {
         let lengths = if faults.has(4) { alone_and_in_pairs(READING) } else { vec![vec![]; 10] };
         lengths.iter().for_each(|lengths| read_with(&mut random, &faults, lengths));
