@@ -595,6 +595,7 @@ static void refusing_to_fill(void)
     EXPECT(refused_fill(all, 0, 0, octets, 2) == S3_LENGTH && refused_fill(all, 0, 0, DATA_1, 3) == S3_LENGTH);
     EXPECT(refused_fill(all, all + 1, 0, octets, 3) == S3_LENGTH);
     EXPECT(refused_fill(all, UINT64_MAX, 0, octets, 3) == S3_LENGTH);
+    EXPECT(refused_fill(all, (uint64_t)1 << 32, 0, octets, 3) == S3_LENGTH); /* not the number of its low 32 bits */
     EXPECT(refused_fill(all, 0, 4, octets, 3) == S3_LENGTH && refused_fill(all, 0, 256, octets, 3) == S3_LENGTH);
     EXPECT(refused_fill(all, 1, 1, octets, 3) == S3_LENGTH && refused_fill(all, all - 1, 3, octets, 3) == S3_LENGTH);
     EXPECT(refused_fill(all - 1, 0, 0, octets, 3) == S3_PACKET && refused_fill(all + 1, 0, 0, octets, 3) == S3_PACKET);
@@ -630,7 +631,9 @@ static void filling_with_tlv(void)
     /* Nothing is left but the two octets owed. */
     EXPECT(FILL(TLV_PACKETS, next[0], (uint32_t)next[1], DATA_1, 1, 2) == S3_ACCEPTED && returned(next, TLV_PACKETS, 0));
     EXPECT(memcmp(tlv_slots, fillers + 2, 4) == 0 && tlv_begins[0] == 2);
-    /* A packet that fills slots in which nothing begins. */
+    EXPECT(FILL(0, 0, 1, DATA_1, 1, 2) == S3_ACCEPTED && returned(next, 0, 3) && tlv_begins[0] == 1);
+    EXPECT(FILL(0, 0, 3, DATA_1, 1, 2) == S3_ACCEPTED && returned(next, 0, 1) && tlv_begins[0] == 3);
+    /* From the second octet of a packet on: it ends in the slot, or nothing begins there. */
     EXPECT(FILL(1004, 1, 0, DATA_1, 1, 2) == S3_ACCEPTED && returned(next, 1004, 1) && tlv_begins[0] == 1003);
     EXPECT(FILL(TLV_PACKETS, 2817, 0, DATA_1, 1, 2) == S3_ACCEPTED && returned(next, 4687, 0));
     EXPECT(tlv_begins[0] == S3_NO_BEGIN);

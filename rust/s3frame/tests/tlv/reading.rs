@@ -2,7 +2,7 @@
 use crate::common::tlv::{Counts, Piece, Stream, FILLER};
 use crate::common::Random;
 use crate::{cut, filled_stream, streams, Slots, CUTS};
-use s3frame::{read_tlv, Rate, TlvRead, NO_BEGIN};
+use s3frame::{read_tlv, Rate, Refusal, TlvFilled, TlvRead, NO_BEGIN};
 
 /// Slots as they are received.
 #[derive(Clone)]
@@ -195,4 +195,46 @@ fn reading_in_two_calls_is_reading_once() {
     });
     cuts.are(&CUTS);
     kinds.are(&["loss before", "loss behind", "nothing lost"]);
+}
+
+/// Packets that are lent when those before have run out follow the fillers, and all come back together.
+#[test]
+fn packets_lent_later_follow_the_fillers() {
+    let mut random = Random::new(99);
+    let mut kinds = Counts::default();
+    streams(&mut random, 100, |random, stream| {
+        let (came, (mut slots, mut begins)) = filled_stream(random, &stream);
+        if came.taken < stream.lent().len() as u64 {
+            return;
+        }
+        let later = Stream { from: TlvFilled { taken: 0, owed: came.owed }, ..Stream::new(random, stream.rate) };
+        let (_, more) = filled_stream(random, &later);
+        slots.extend(more.0);
+        begins.extend(more.1);
+        let [first, second] = [&stream, &later].map(|stream| expected(stream, &[]));
+        let unfinished = second.1.map(|at| stream.room() + at);
+        let read = Received::new(stream.rate, (slots, begins)).read(random);
+        assert!(read == ([first.0, second.0].concat(), unfinished));
+        kinds.add(["nothing owed", "one owed", "two owed", "three owed"][came.owed as usize]);
+    });
+    kinds.are(&["nothing owed", "one owed", "two owed", "three owed"]);
+}
+
+#[test]
+fn an_octet_past_its_slot_is_refused() {
+    for rate in Rate::ALL {
+        let (data, found) = (rate.data_octets(), vec![7; 2 * rate.data_octets()]);
+        let read = |begins: [u16; 2], first| {
+            let mut packets = found.clone();
+            let answer = read_tlv(rate, &vec![0; 2 * data], &begins, &[false, true], first, &mut packets);
+            assert!(packets == found);
+            answer
+        };
+        for past in [data as u16, data as u16 + 1, 65_534] {
+            assert_eq!(read([0, 0], Some(past)), Err(Refusal::Length));
+            assert_eq!([read([0, past], None), read([past, 0], Some(0))], [Err(Refusal::Length); 2]);
+        }
+        let last = data as u16 - 1;
+        assert_eq!(read([last, NO_BEGIN], Some(last)), Ok(TlvRead { written: 0, unfinished: None }));
+    }
 }
