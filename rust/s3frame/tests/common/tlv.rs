@@ -118,15 +118,16 @@ impl Random {
         [vec![0x7f, kind, high, low], octets].concat()
     }
 
-    /// How many octets a body has, for a packet that begins at this octet of a stream. Every other one ends so that the
-    /// next packet has room for none to four octets in a slot.
+    /// How many octets a body has, for a packet that begins at this octet of a stream. Every third ends so that the next
+    /// packet has room for none to four octets in a slot.
     fn body(&mut self, data: usize, at: usize) -> usize {
-        match self.below(12) {
-            0 | 1 => 0,
-            2 | 3 => self.below(8),
-            4 => self.below(400),
-            5 => self.below(3 * data),
-            6 if self.chance(20) => 65_535,
+        match self.below(16) {
+            0..=2 => 0,
+            3..=5 => self.below(8),
+            6 | 7 => self.below(100),
+            8 => self.below(400),
+            9 => self.below(3 * data),
+            10 if self.chance(20) => 65_535,
             _ => {
                 let end = at + 4 + self.below(5);
                 data * self.pick(&[0, 0, 0, 1, 2]) + (data - end % data) % data

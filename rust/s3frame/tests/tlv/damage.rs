@@ -1,7 +1,7 @@
 //! Reading slots that are damaged, with reports that are false, from any octet on.
 use crate::common::tlv::{Counts, Piece};
 use crate::common::{trials, Random};
-use crate::reading::Received;
+use crate::reading::{expected_pieces, Received};
 use crate::{filled, filled_stream, streams};
 use s3frame::{Rate, TlvFilled, NO_BEGIN};
 
@@ -23,20 +23,17 @@ fn plant(random: &mut Random, received: &mut Received, slot: usize, packet: &[u8
     received.slots[slot * data + octet..][..packet.len()].copy_from_slice(packet);
 }
 
-/// An octet to read first, also one where no packet begins.
-fn first(random: &mut Random, received: &Received, pieces: &[Piece]) -> Option<u16> {
+/// An octet to read first, and what it is: also one where no packet begins.
+fn first(random: &mut Random, received: &Received, pieces: &[Piece]) -> (&'static str, u16) {
     let data = received.rate.data_octets();
-    let of_piece = match pieces {
-        [] => 0,
-        _ => pieces[random.below(pieces.len())].at % data,
-    };
+    let heads: Vec<usize> = pieces.iter().map(|piece| piece.at).filter(|&at| at < data).collect();
     match random.below(6) {
-        0 => Some(0),
-        1 => Some(received.begins[0]),
-        2 => Some(NO_BEGIN),
-        3 => Some(data as u16 - 1),
-        4 => Some(of_piece as u16),
-        _ => Some(random.below(data) as u16),
+        0 => ("octet 0", 0),
+        1 => ("the slot's report", received.begins[0]),
+        2 => ("the first reported", NO_BEGIN),
+        3 => ("the last octet", data as u16 - 1),
+        4 if !heads.is_empty() => ("where a packet begins", random.pick(&heads) as u16),
+        _ => ("any octet", random.below(data) as u16),
     }
 }
 
@@ -71,7 +68,7 @@ fn damage(random: &mut Random, kind: &str, pieces: &[Piece], received: &mut Rece
             plant(random, received, slot, &packet);
         }
         "loss" => received.lost[slot] = true,
-        "first to read" => received.first = first(random, received, pieces),
+        "first to read" => received.first = Some(first(random, received, pieces).1),
         _ => {
             let octets: Vec<usize> = pieces.iter().filter_map(|piece| octet_of(random, kind, piece)).collect();
             if !octets.is_empty() {
@@ -108,6 +105,41 @@ fn damaged_slots() {
     });
     alone.are(&DAMAGES);
     ends.are(&["unfinished", "nothing unfinished", "no packets"]);
+}
+
+/// From where a packet begins, what is read is that packet and what follows; elsewhere it is as in the second implementation.
+#[test]
+fn reading_begins_at_any_octet_of_the_first_slot() {
+    let mut random = Random::new(100);
+    let mut kinds = Counts::default();
+    streams(&mut random, 100, |random, stream| {
+        let mut received = Received::new(stream.rate, filled_stream(random, &stream).1);
+        received.lose(random);
+        let pieces = stream.pieces();
+        let (kind, octet) = first(random, &received, &pieces);
+        // What the first slot reports does not matter then.
+        if octet != NO_BEGIN {
+            received.begins[0] = random.pick(&[received.begins[0], 0, 5, NO_BEGIN]);
+        }
+        received.first = Some(octet);
+        let read = received.read(random);
+        kinds.add(kind);
+        if pieces.iter().any(|piece| piece.at == octet.into()) {
+            let (mut whole, cut) = expected_pieces(&stream, &received.lost);
+            whole.retain(|piece| piece.at >= octet.into());
+            let packets: Vec<u8> = whole.into_iter().flat_map(|piece| piece.octets).collect();
+            assert!(read.0 == packets);
+            assert_eq!(read.1, cut.map(|piece| piece.at).filter(|&at| at >= octet.into()));
+        }
+    });
+    kinds.are(&[
+        "octet 0",
+        "the slot's report",
+        "the first reported",
+        "the last octet",
+        "where a packet begins",
+        "any octet",
+    ]);
 }
 
 /// A null packet over several slots is made wrong by packets within it, which later slots report. Reading goes on at each of

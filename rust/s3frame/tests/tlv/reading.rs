@@ -62,51 +62,78 @@ impl Received {
     }
 }
 
-/// The packets that must be read of a stream with slots lost, and where the unfinished one begins.
+/// The pieces of a stream that must be read where slots are lost, and the one that must be unfinished.
+pub fn expected_pieces(stream: &Stream, lost: &[bool]) -> (Vec<Piece>, Option<Piece>) {
+    let sound = |piece: &Piece| !piece.touches(stream.data(), lost);
+    let (cut, mut whole): (Vec<Piece>, Vec<Piece>) =
+        stream.pieces().into_iter().filter(sound).partition(|piece| piece.end() > stream.room());
+    whole.retain(|piece| piece.octets != FILLER);
+    (whole, cut.into_iter().next())
+}
+
+/// The packets that must be read, and where the unfinished one begins.
 fn expected(stream: &Stream, lost: &[bool]) -> (Vec<u8>, Option<usize>) {
-    let pieces = stream.pieces();
-    let sound = || pieces.iter().filter(|piece| !piece.touches(stream.data(), lost));
-    let whole = sound().filter(|piece| piece.end() <= stream.room() && piece.octets != FILLER);
-    let cut = sound().find(|piece| piece.end() > stream.room());
-    (whole.flat_map(|piece| piece.octets.clone()).collect(), cut.map(|piece| piece.at))
+    let (whole, cut) = expected_pieces(stream, lost);
+    (whole.into_iter().flat_map(|piece| piece.octets).collect(), cut.map(|piece| piece.at))
+}
+
+/// The kinds of packets that are read.
+fn count_packets(counts: &mut Counts, stream: &Stream, lost: &[bool]) {
+    for piece in expected_pieces(stream, lost).0 {
+        counts.add(match piece.octets[1] {
+            0x01 => "IPv4",
+            0x02 => "IPv6",
+            0x03 => "compressed IP",
+            0xfe => "signalling",
+            _ => "null with a body",
+        });
+        counts.add_if(piece.octets.len() == 4, "without a body");
+        counts.add_if(piece.at / stream.data() + 1 < (piece.end() - 1) / stream.data(), "over three slots");
+        counts.add_if(lost[..piece.at / stream.data()].contains(&true), "behind a lost slot");
+        counts.add_if(lost[piece.at / stream.data()..].contains(&true), "before a lost slot");
+    }
 }
 
 #[test]
 fn what_was_filled_is_read_but_for_what_touches_a_lost_slot() {
     let mut random = Random::new(94);
-    let (mut lost_at, mut ends, mut kinds) = (Counts::default(), Counts::default(), Counts::default());
+    let (mut lost_at, mut ends) = (Counts::default(), Counts::default());
+    let (mut packets, mut kinds) = (Counts::default(), Counts::default());
     streams(&mut random, 400, |random, stream| {
         let mut received = Received::new(stream.rate, filled_stream(random, &stream).1);
         received.lose(random);
         received.spoil_lost(random);
         received.first = random.pick(&[None, Some(received.begins[0]), Some(NO_BEGIN)]);
-        let (packets, unfinished) = received.read(random);
-        assert!((packets.clone(), unfinished) == expected(&stream, &received.lost));
+        let read = received.read(random);
+        assert!(read == expected(&stream, &received.lost));
 
-        let pieces = stream.pieces();
-        for (slot, _) in received.lost.iter().enumerate().skip(1).filter(|(_, &lost)| lost) {
+        let (pieces, lost) = (stream.pieces(), &received.lost);
+        for slot in (1..stream.slots).filter(|&slot| lost[slot]) {
             lost_at.add(cut(&pieces, slot * stream.data()));
         }
-        ends.add_if(unfinished.is_some(), cut(&pieces, stream.room()));
-        kinds.add_if(!received.lost.contains(&true), "nothing lost");
-        kinds.add_if(!received.lost.contains(&false), "all lost");
-        kinds.add_if(received.lost[0] && !packets.is_empty(), "packets behind a lost first slot");
-        kinds.add_if(received.lost[stream.slots - 1] && !packets.is_empty(), "packets before a lost last slot");
-        let own = |piece: &Piece| piece.octets == FILLER && piece.at < stream.room() - 4;
-        kinds.add_if(pieces.iter().any(own) && !packets.is_empty(), "empty nulls left out");
-        let broken = |piece: &Piece| piece.end() > stream.room() && piece.touches(stream.data(), &received.lost);
-        kinds.add_if(pieces.iter().any(|piece| broken(piece) && !received.lost[stream.slots - 1]), "lost and cut");
+        ends.add_if(read.1.is_some(), cut(&pieces, stream.room()));
+        count_packets(&mut packets, &stream, lost);
+        kinds.add_if(!lost.contains(&true), "nothing lost");
+        kinds.add_if(!lost.contains(&false), "all lost");
+        kinds.add_if(stream.packets.iter().any(|packet| *packet == FILLER), "empty nulls of the caller's own");
+        let lost_and_cut = |piece: &Piece| piece.end() > stream.room() && piece.touches(stream.data(), lost);
+        kinds
+            .add_if(pieces.iter().any(lost_and_cut) && !lost[stream.slots - 1], "lost in its midst and cut by the end");
     });
     lost_at.are(&CUTS);
     ends.are(&CUTS[1..]);
-    kinds.are(&[
-        "nothing lost",
-        "all lost",
-        "packets behind a lost first slot",
-        "packets before a lost last slot",
-        "empty nulls left out",
-        "lost and cut",
+    packets.are(&[
+        "IPv4",
+        "IPv6",
+        "compressed IP",
+        "signalling",
+        "null with a body",
+        "without a body",
+        "over three slots",
+        "behind a lost slot",
+        "before a lost slot",
     ]);
+    kinds.are(&["nothing lost", "all lost", "empty nulls of the caller's own", "lost in its midst and cut by the end"]);
 }
 
 /// Overwrites what is seen of pieces that are not whole, and says what they were. Of a whole head the body alone is
