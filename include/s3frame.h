@@ -1,4 +1,5 @@
-/* ISDB-S3 slot framer and its reader: slots, whole frames, TMCC blocks, symbols as labels, TS packets.
+/* ISDB-S3 slot framer and its reader: slots, whole frames, TMCC blocks, symbols as labels, TS packets, and
+ * TLV packets.
  *
  * Every call but those under "What to lend" answers a number: 0 where it is accepted, else the refusal of the first test that
  * failed; s3_word gives its word. A call tests in the order in which its numbers are listed. Unless a call says otherwise, a
@@ -17,7 +18,7 @@ extern "C" {
 #endif
 
 /* The version of the library: 10,000 times the major number, 100 times the minor one, and the patch number. */
-#define S3_VERSION 300
+#define S3_VERSION 400
 
 /* A result that nobody looks at is a mistake, of which the compiler warns. */
 #if defined(__cplusplus) && __cplusplus >= 201703L
@@ -35,7 +36,7 @@ extern "C" {
 #define S3_PLAN 1u      /* not 1 to 8 groups, or slot 0; in a call without a plan, an unknown modulation or rate */
 #define S3_DUMMY 2u     /* a dummy where data was asked for, or a data slot at a pass */
 #define S3_FULL 3u      /* slot 120 is past */
-#define S3_LENGTH 4u    /* an area isn't exactly its length */
+#define S3_LENGTH 4u    /* an area isn't exactly its length; in a TLV call also a number outside its bounds */
 #define S3_TABLE 5u     /* a parity table breaks its form */
 #define S3_REGISTER 6u  /* start or register is 0 or too wide; mask is too wide or lacks the top bit */
 #define S3_SYNC 7u      /* a TS packet doesn't begin 0x47 */
@@ -47,11 +48,13 @@ extern "C" {
 #define S3_VALUE 13u    /* a group's modulation or rate is unknown, or its slots are 0 or no multiple of 5 */
 #define S3_ORDER 14u    /* the groups do not fall */
 #define S3_TOTAL 15u    /* the slots of all groups do not add to 120 */
+#define S3_PACKET 16u   /* a TLV head is wrong or a null's body is not all 0xFF, or a head or length runs past the packets */
 
 /* The word of a number; that of 0 is "accepted", and a number that no call answers has none, "unknown". */
 S3_RESULT static inline const char *s3_word(uint32_t number) {
     static const char *const words[] = {"accepted", "plan", "dummy", "full", "length", "table", "register", "sync",
-                                        "parity", "BCH", "stuff", "tail", "label", "value", "order", "total"};
+                                        "parity", "BCH", "stuff", "tail", "label", "value", "order", "total",
+                                        "packet"};
     return number < sizeof words / sizeof *words ? words[number] : "unknown";
 }
 
@@ -68,6 +71,10 @@ S3_RESULT static inline const char *s3_word(uint32_t number) {
 #define S3_TMCC_OCTETS 1178u      /* octets of a frame's 9,422 TMCC bits and two zeros */
 #define S3_BLOCK_OCTETS 3960u     /* octets of a coded TMCC block */
 #define S3_BLOCK_LABELS 31680u    /* labels of a TMCC block */
+#define S3_TLV_NEXT 2u            /* numbers of `next` of s3_tlv_fill and s3_tlv_read */
+
+/* What stands for no octet of a slot where the TLV calls report one or take one. */
+#define S3_NO_BEGIN 65535u
 
 /* Rates 1 to 11 are 1/3, 2/5, 1/2, 3/5, 2/3, 3/4, 7/9, 4/5, 5/6, 7/8, 9/10.
  * P, the packets of a slot, are 10, 12, 15, 18, 20, 22, 23, 24, 25, 26, 27: s3_packets_of.
@@ -241,6 +248,41 @@ S3_RESULT uint32_t s3_pack(uint32_t rate, const uint8_t *packets, size_t packets
  * Numbers: 1, 4. */
 S3_RESULT uint32_t s3_unpack(uint32_t rate, const uint8_t *octets, size_t octets_length, uint8_t *packets,
                              size_t packets_length);
+
+/* A TLV packet is 0x7F, a type octet (0x01, 0x02, 0x03, 0xFE or 0xFF), the length of its body in two octets, the high one
+ * first, and the body. One of type 0xFF is a null packet: its body is all 0xFF. One stream of packets fills all data slots of
+ * a group, end to end across slots and frames; where packets run out, empty null packets, 7F FF 00 00, fill up. Slots are
+ * lent as their data octets alone, end to end. */
+
+/* Fills slots: with the octets owed, the packets from `taken` on, and fillers, the last of which the slots' end may cut.
+ *   packets  whole packets end to end, those taken before included
+ *   taken    how many of their octets were taken before: 0 at first, at most packets_length
+ *   owed     how many octets of a cut filler come first: 0 to 3, and 0 unless taken is 0 or packets_length
+ *   slots    187 * P octets for each of n slots, at least one
+ *   begins   n numbers: the octet of each slot where the first packet or filler begins, or S3_NO_BEGIN
+ *   next     2 numbers: how many octets of the packets are taken in all, and how many of a cut filler are owed; two zeros
+ *            with a refusal
+ * Numbers: 1, 4 (also taken or owed outside these bounds), 16 (in any of the packets). Where next has another length it is
+ * left as found. */
+S3_RESULT uint32_t s3_tlv_fill(uint32_t rate, const uint8_t *packets, size_t packets_length, uint64_t taken,
+                               uint32_t owed, uint8_t *slots, size_t slots_length, uint16_t *begins,
+                               size_t begins_length, uint64_t *next, size_t next_length);
+
+/* Reads the TLV packets of slots, without empty null packets. A packet that meets a lost slot is dropped, and reading goes on
+ * at the next beginning that a slot behind it reports. A head or null body that is whole and wrong counts as losing the rest
+ * of the slot where that head begins.
+ *   slots    187 * P octets for each of n slots, at least one; those of a lost slot are not looked at
+ *   begins   n numbers, the slots' reports: below 187 * P, or S3_NO_BEGIN
+ *   lost     n octets: 1 for a lost slot, else 0
+ *   first    the octet of the first slot to read first, below 187 * P, or S3_NO_BEGIN for the first reported beginning
+ *   packets  as many octets as slots: the whole packets end to end; what is behind them is left as found
+ *   next     2 numbers: how many octets were written, and where in slots an unfinished last packet begins, or slots_length;
+ *            two zeros with a refusal
+ * Numbers: 1, 4 (also a report, mark or first octet outside these bounds). Where next has another length it is left as
+ * found. */
+S3_RESULT uint32_t s3_tlv_read(uint32_t rate, const uint8_t *slots, size_t slots_length, const uint16_t *begins,
+                               size_t begins_length, const uint8_t *lost, size_t lost_length, uint32_t first,
+                               uint8_t *packets, size_t packets_length, uint64_t *next, size_t next_length);
 
 /* Copies the published parity table of a rate.
  *   table  T numbers

@@ -1,4 +1,4 @@
-/* Calls of every kind through include/s3frame.h, with what each must answer and leave (document 01). */
+/* Calls of every kind through include/s3frame.h, with what each must answer and leave (documents 01 and 02). */
 #include "s3frame.h"
 
 #include <stdio.h>
@@ -92,8 +92,8 @@ static void words(void)
     EXPECT(strcmp(s3_word(S3_ACCEPTED), "accepted") == 0 && strcmp(s3_word(S3_PLAN), "plan") == 0);
     EXPECT(strcmp(s3_word(S3_BCH), "BCH") == 0 && strcmp(s3_word(S3_LABEL), "label") == 0);
     EXPECT(strcmp(s3_word(S3_VALUE), "value") == 0 && strcmp(s3_word(S3_ORDER), "order") == 0);
-    EXPECT(strcmp(s3_word(S3_TOTAL), "total") == 0);
-    EXPECT(strcmp(s3_word(16), "unknown") == 0 && strcmp(s3_word(UINT32_MAX), "unknown") == 0);
+    EXPECT(strcmp(s3_word(S3_TOTAL), "total") == 0 && strcmp(s3_word(S3_PACKET), "packet") == 0);
+    EXPECT(strcmp(s3_word(17), "unknown") == 0 && strcmp(s3_word(UINT32_MAX), "unknown") == 0);
 }
 
 /* What a caller asks before it lends. */
@@ -538,6 +538,173 @@ static void packing(void)
     EXPECT(untouched(octets, sizeof octets) && untouched(back, sizeof back));
 }
 
+/* Three slots of rate 1. Their packets are of 1,004, 1,504, 304, 4 and 2,004 octets, the fourth an empty null: they begin at
+ * 0, 1004, 2508, 2812 and 2816 and end at 4820. */
+enum { DATA_1 = 1870, TLV_SLOTS = 3 * DATA_1, TLV_PACKETS = 4820 };
+
+static uint8_t tlv_packets[TLV_PACKETS + 1], tlv_slots[TLV_SLOTS];
+static uint16_t tlv_begins[3];
+
+static size_t put_packet(uint8_t *at, uint8_t type, size_t body)
+{
+    at[0] = 0x7F;
+    at[1] = type;
+    at[2] = (uint8_t)(body >> 8);
+    at[3] = (uint8_t)body;
+    fill(at + 4, body);
+    return 4 + body;
+}
+
+static void put_packets(void)
+{
+    static const struct { uint8_t type; size_t body; } all[] = {{1, 1000}, {0xFE, 1500}, {3, 300}, {0xFF, 0}, {2, 2000}};
+    size_t end = 0;
+    for (size_t i = 0; i < COUNT(all); i++) end += put_packet(tlv_packets + end, all[i].type, all[i].body);
+    EXPECT(end == TLV_PACKETS);
+}
+
+static int returned(const uint64_t *next, uint64_t first, uint64_t second)
+{
+    return next[0] == first && next[1] == second;
+}
+
+static int tlv_untouched(void)
+{
+    return untouched(tlv_slots, sizeof tlv_slots) && untouched((const uint8_t *)tlv_begins, sizeof tlv_begins);
+}
+
+#define FILL(length, taken, owed, octets, count, next_length) \
+    s3_tlv_fill(1, tlv_packets, length, taken, owed, tlv_slots, octets, tlv_begins, count, next, next_length)
+
+/* A refusal of s3_tlv_fill, which returns zeros and leaves the slots and their reports. */
+static uint32_t refused_fill(size_t length, uint64_t taken, uint32_t owed, size_t octets, size_t count)
+{
+    uint64_t next[2] = {7, 8};
+    const uint32_t number = FILL(length, taken, owed, octets, count, 2);
+    return returned(next, 0, 0) && tlv_untouched() ? number : UINT32_MAX;
+}
+
+static void refusing_to_fill(void)
+{
+    uint64_t next[3] = {7, 8, 9};
+    const size_t all = TLV_PACKETS, octets = TLV_SLOTS;
+    memset(tlv_slots, FOUND, sizeof tlv_slots);
+    memset(tlv_begins, FOUND, sizeof tlv_begins);
+    put_packets();
+    EXPECT(refused_fill(all, 0, 0, 0, 0) == S3_LENGTH && refused_fill(all, 0, 0, octets - 1, 3) == S3_LENGTH);
+    EXPECT(refused_fill(all, 0, 0, octets, 2) == S3_LENGTH && refused_fill(all, 0, 0, DATA_1, 3) == S3_LENGTH);
+    EXPECT(refused_fill(all, all + 1, 0, octets, 3) == S3_LENGTH);
+    EXPECT(refused_fill(all, UINT64_MAX, 0, octets, 3) == S3_LENGTH);
+    EXPECT(refused_fill(all, (uint64_t)1 << 32, 0, octets, 3) == S3_LENGTH); /* not the number of its low 32 bits */
+    EXPECT(refused_fill(all, 0, 4, octets, 3) == S3_LENGTH && refused_fill(all, 0, 256, octets, 3) == S3_LENGTH);
+    EXPECT(refused_fill(all, 1, 1, octets, 3) == S3_LENGTH && refused_fill(all, all - 1, 3, octets, 3) == S3_LENGTH);
+    EXPECT(refused_fill(all - 1, 0, 0, octets, 3) == S3_PACKET && refused_fill(all + 1, 0, 0, octets, 3) == S3_PACKET);
+    EXPECT(refused_fill(all - 1, 0, 4, octets, 3) == S3_LENGTH);
+    tlv_packets[2813] = 4;
+    EXPECT(refused_fill(all, 0, 0, octets, 3) == S3_PACKET && refused_fill(all, all, 0, octets, 3) == S3_PACKET);
+    put_packets();
+    tlv_packets[1005] = 0xFF; /* a null packet whose body is not all 0xFF */
+    EXPECT(refused_fill(all, 0, 0, octets, 3) == S3_PACKET);
+    put_packets();
+    EXPECT(FILL(all, 0, 0, octets, 3, 1) == S3_LENGTH && FILL(all, 0, 0, octets, 3, 3) == S3_LENGTH);
+    EXPECT(FILL(all - 1, 0, 0, octets, 3, 0) == S3_LENGTH);
+    EXPECT(s3_tlv_fill(12, tlv_packets, all, 0, 4, tlv_slots, 0, tlv_begins, 0, next, 3) == S3_PLAN);
+    EXPECT(returned(next, 7, 8) && next[2] == 9);
+    EXPECT(s3_tlv_fill(256 + 1, tlv_packets, all, 0, 0, tlv_slots, octets, tlv_begins, 3, next, 2) == S3_PLAN);
+    EXPECT(returned(next, 0, 0) && tlv_untouched());
+}
+
+static void filling_with_tlv(void)
+{
+    static uint8_t once[TLV_SLOTS];
+    static const uint8_t fillers[] = {0x7F, 0xFF, 0, 0, 0x7F, 0xFF};
+    uint64_t next[2] = {7, 8};
+    EXPECT(FILL(TLV_PACKETS, 0, 0, TLV_SLOTS, 3, S3_TLV_NEXT) == S3_ACCEPTED && returned(next, TLV_PACKETS, 2));
+    EXPECT(memcmp(tlv_slots, tlv_packets, TLV_PACKETS) == 0);
+    EXPECT(memcmp(tlv_slots + TLV_PACKETS, fillers, 6) == 0 && memcmp(tlv_slots + TLV_SLOTS - 6, fillers, 6) == 0);
+    EXPECT(tlv_begins[0] == 0 && tlv_begins[1] == 2508 - DATA_1 && tlv_begins[2] == 4820 - 2 * DATA_1);
+    memcpy(once, tlv_slots, sizeof once);
+    /* The last slot alone: what was taken in the two before is not filled again. */
+    EXPECT(FILL(TLV_PACKETS, 0, 0, 2 * DATA_1, 2, 2) == S3_ACCEPTED && returned(next, 2 * DATA_1, 0));
+    EXPECT(FILL(TLV_PACKETS, next[0], 0, DATA_1, 1, 2) == S3_ACCEPTED && returned(next, TLV_PACKETS, 2));
+    EXPECT(memcmp(tlv_slots, once + 2 * DATA_1, DATA_1) == 0 && tlv_begins[0] == 1080);
+    /* Nothing is left but the two octets owed. */
+    EXPECT(FILL(TLV_PACKETS, next[0], (uint32_t)next[1], DATA_1, 1, 2) == S3_ACCEPTED && returned(next, TLV_PACKETS, 0));
+    EXPECT(memcmp(tlv_slots, fillers + 2, 4) == 0 && tlv_begins[0] == 2);
+    EXPECT(FILL(0, 0, 1, DATA_1, 1, 2) == S3_ACCEPTED && returned(next, 0, 3) && tlv_begins[0] == 1);
+    EXPECT(FILL(0, 0, 3, DATA_1, 1, 2) == S3_ACCEPTED && returned(next, 0, 1) && tlv_begins[0] == 3);
+    /* From the second octet of a packet on: it ends in the slot, or nothing begins there. */
+    EXPECT(FILL(1004, 1, 0, DATA_1, 1, 2) == S3_ACCEPTED && returned(next, 1004, 1) && tlv_begins[0] == 1003);
+    EXPECT(FILL(TLV_PACKETS, 2817, 0, DATA_1, 1, 2) == S3_ACCEPTED && returned(next, 4687, 0));
+    EXPECT(tlv_begins[0] == S3_NO_BEGIN);
+    EXPECT(FILL(TLV_PACKETS, 0, 0, TLV_SLOTS, 3, 2) == S3_ACCEPTED && memcmp(tlv_slots, once, sizeof once) == 0);
+}
+
+static uint8_t tlv_back[TLV_SLOTS];
+
+/* Reads the three slots with marks and a first octet: the packets that come back must be those of these places in
+ * tlv_packets, and the rest is left as found. */
+static int reads(const uint8_t *lost, uint32_t first, size_t from, size_t to, uint64_t unfinished)
+{
+    uint64_t next[2] = {7, 8};
+    memset(tlv_back, FOUND, sizeof tlv_back);
+    if (s3_tlv_read(1, tlv_slots, TLV_SLOTS, tlv_begins, 3, lost, 3, first, tlv_back, TLV_SLOTS, next, 2) != S3_ACCEPTED)
+        return 0;
+    return returned(next, to - from, unfinished) && memcmp(tlv_back, tlv_packets + from, to - from) == 0
+        && untouched(tlv_back + (to - from), TLV_SLOTS - (to - from));
+}
+
+static void reading_tlv(void)
+{
+    static const uint8_t sound[] = {0, 0, 0}, second[] = {0, 1, 0}, third[] = {0, 0, 1}, all[] = {1, 1, 1};
+    uint64_t next[2] = {7, 8};
+    EXPECT(s3_tlv_read(1, tlv_slots, TLV_SLOTS, tlv_begins, 3, sound, 3, S3_NO_BEGIN, tlv_back, TLV_SLOTS, next, 2)
+           == S3_ACCEPTED);
+    EXPECT(returned(next, TLV_PACKETS - 4, 5608)); /* without the empty null; a filler is cut by the slots' end */
+    EXPECT(memcmp(tlv_back, tlv_packets, 2812) == 0 && memcmp(tlv_back + 2812, tlv_packets + 2816, 2004) == 0);
+    EXPECT(reads(third, 0, 0, 2812, TLV_SLOTS) && reads(third, 1004, 1004, 2812, TLV_SLOTS));
+    EXPECT(reads(all, 0, 0, 0, TLV_SLOTS));
+    memset(tlv_slots + DATA_1, 0x7F, DATA_1); /* a lost slot's octets are not looked at */
+    EXPECT(reads(second, S3_NO_BEGIN, 0, 1004, 5608));
+    memcpy(tlv_slots + DATA_1, tlv_packets + DATA_1, DATA_1);
+    tlv_slots[1] = 4; /* a wrong head loses the rest of its slot */
+    tlv_slots[2817] = 4;
+    EXPECT(reads(sound, S3_NO_BEGIN, 2508, 2812, 5608));
+    tlv_slots[2508] = 0;
+    EXPECT(reads(sound, S3_NO_BEGIN, 0, 0, 5608));
+}
+
+#define READ_TLV(octets, reports, marks, first, room, next_length) \
+    s3_tlv_read(1, tlv_slots, octets, tlv_begins, reports, lost, marks, first, tlv_back, room, next, next_length)
+
+static void refusing_to_read(void)
+{
+    uint8_t lost[3] = {0, 1, 0};
+    uint64_t next[3] = {7, 8, 9};
+    memset(tlv_back, FOUND, sizeof tlv_back);
+    EXPECT(READ_TLV(0, 0, 0, 0, 0, 2) == S3_LENGTH && returned(next, 0, 0));
+    EXPECT(READ_TLV(TLV_SLOTS - 1, 3, 3, 0, TLV_SLOTS - 1, 2) == S3_LENGTH);
+    EXPECT(READ_TLV(TLV_SLOTS, 2, 3, 0, TLV_SLOTS, 2) == S3_LENGTH);
+    EXPECT(READ_TLV(TLV_SLOTS, 3, 2, 0, TLV_SLOTS, 2) == S3_LENGTH);
+    EXPECT(READ_TLV(TLV_SLOTS, 3, 3, 0, TLV_SLOTS - 1, 2) == S3_LENGTH);
+    EXPECT(READ_TLV(TLV_SLOTS, 3, 3, DATA_1, TLV_SLOTS, 2) == S3_LENGTH);
+    EXPECT(READ_TLV(TLV_SLOTS, 3, 3, 65536, TLV_SLOTS, 2) == S3_LENGTH);
+    tlv_begins[1] = DATA_1; /* of a lost slot */
+    EXPECT(READ_TLV(TLV_SLOTS, 3, 3, 0, TLV_SLOTS, 2) == S3_LENGTH);
+    tlv_begins[1] = 0;
+    lost[2] = 2;
+    next[0] = next[1] = 7;
+    EXPECT(READ_TLV(TLV_SLOTS, 3, 3, 0, TLV_SLOTS, 2) == S3_LENGTH && returned(next, 0, 0));
+    lost[2] = 0;
+    next[0] = next[1] = 7;
+    EXPECT(s3_tlv_read(0, tlv_slots, 0, tlv_begins, 3, lost, 3, 0, tlv_back, 0, next, 2) == S3_PLAN && returned(next, 0, 0));
+    next[0] = next[1] = 7;
+    EXPECT(s3_tlv_read(12, tlv_slots, 0, tlv_begins, 3, lost, 3, 0, tlv_back, 0, next, 3) == S3_PLAN);
+    EXPECT(READ_TLV(TLV_SLOTS, 3, 3, 0, TLV_SLOTS, 1) == S3_LENGTH && READ_TLV(TLV_SLOTS, 3, 3, 0, TLV_SLOTS, 3) == S3_LENGTH);
+    EXPECT(returned(next, 7, 7) && next[2] == 9 && untouched(tlv_back, sizeof tlv_back));
+    EXPECT(READ_TLV(TLV_SLOTS, 3, 3, 0, TLV_SLOTS, 2) == S3_ACCEPTED);
+}
+
 int main(void)
 {
     words();
@@ -557,6 +724,10 @@ int main(void)
     symbols();
     block_symbols();
     packing();
+    refusing_to_fill();
+    filling_with_tlv();
+    reading_tlv();
+    refusing_to_read();
     printf("c: %u passed, %u failed\n", passed, failed);
     return failed != 0;
 }

@@ -1,6 +1,6 @@
-//! A second implementation of the coders and readers of slots, whole frames and TMCC blocks, written from document 002
-//! and, where its drawings are lost, from document 01. It shares nothing with the proved crates: bits lie one to an octet,
-//! and each step is the document's. The library is for tests that compare call by call.
+//! A second implementation of the coders and readers of slots, whole frames and TMCC blocks, and of TLV channels, written
+//! from document 002 and, where its drawings are lost, from documents 01 and 02. It shares nothing with the proved crates:
+//! bits lie one to an octet, and each step is the document's. The library is for tests that compare call by call.
 pub mod bch;
 pub mod bench;
 pub mod calls;
@@ -16,5 +16,6 @@ pub mod slot;
 pub mod stream;
 pub mod symbols;
 pub mod tables;
+pub mod tlv;
 pub mod tmcc;
 pub mod vectors;

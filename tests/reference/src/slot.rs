@@ -21,6 +21,7 @@ pub const LABEL_WRONG: u8 = 12;
 pub const VALUE_WRONG: u8 = 13;
 pub const ORDER_WRONG: u8 = 14;
 pub const TOTAL_WRONG: u8 = 15;
+pub const PACKET_WRONG: u8 = 16;
 
 /// What a rate fixes: its table and the generator of the outer code.
 pub struct Code {

@@ -196,3 +196,38 @@ fn break_row(random: &mut Random, rates: &[Rate], tables: &mut Vec<u16>) {
     }
     *tables = parts.concat().iter().flat_map(|row| lent(row)).collect();
 }
+
+/// The ways to 16.
+pub const PACKET_FAULTS: [&str; 9] = [
+    "first octet",
+    "type",
+    "null body",
+    "head of 1 octet",
+    "head of 2 octets",
+    "head of 3 octets",
+    "head alone",
+    "body without its last octet",
+    "null without its last octet",
+];
+
+/// 16: TLV packets that are wrong in one of these ways.
+pub fn break_packets(random: &mut Random, way: &str, packets: &mut Vec<Vec<u8>>) {
+    let mut packet = random.tlv_packet(256);
+    packet[1] = if way.starts_with("null") { 0xff } else { 0x02 };
+    if packet[1] == 0xff {
+        packet[4..].fill(0xff);
+    }
+    match way {
+        "first octet" => packet[0] ^= 1 << random.below(8),
+        "type" => packet[1] = random.pick(&[0x00, 0x04, 0x7f, 0x80, 0xfd]),
+        "null body" => packet[random.pick(&[4, 100, 259])] ^= 1 << random.below(8),
+        "head of 1 octet" => packet.truncate(1),
+        "head of 2 octets" => packet.truncate(2),
+        "head of 3 octets" => packet.truncate(3),
+        "head alone" => packet.truncate(4),
+        _ => drop(packet.pop()),
+    }
+    // What is cut is the last; what is whole may stand anywhere.
+    let place = if packet.len() < 260 { packets.len() } else { random.below(packets.len() + 1) };
+    packets.insert(place, packet);
+}

@@ -3,6 +3,7 @@
 //! S3_SEED sets the seed, S3_SOAK multiplies the counts.
 #![allow(dead_code)] // each test file uses a part of this
 pub mod faults;
+pub mod tlv;
 use reference::calls::State;
 use reference::ldpc::{GROUP, ROWS};
 use reference::slot::{bits_of, octets_of, Code};

@@ -15,6 +15,7 @@ mod rates;
 mod slot_packets;
 mod slots;
 mod states;
+mod tlv;
 
 /// Makes a call both ways on areas as found; the number must be the one expected, and both must leave the same. Gives the
 /// areas left.
