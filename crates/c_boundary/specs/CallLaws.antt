@@ -1,12 +1,12 @@
 -- Laws of the calls at a place: what each leaves, and that a slot number past 120 is answered as it was handed over.
 use mathlib.Core.Path.{_≡_, refl, sym, ap, _∙_}
 use mathlib.Core.Bool.{Bool, true, false}
-use mathlib.Core.List.{List}
+use mathlib.Core.List.{List, [], _∷_}
 use Prim.Native.Nat.{ℕ, _+_, _<_}
 use native.Mathlib.Omega.{arith}
 use borrow.Author.Tests.{lt-leb, eq-eqb, ne-eqb, eqb-true}
 use lib.Dec.{eqb}
-use lib.ListN.{length}
+use lib.ListN.{length, set}
 use Rattle.lists.specs.Choice.{pick, andThen}
 use Rattle.lists.specs.ChoiceLaws.{then-zero, then-next, then-first, onward, not-refused}
 use Rattle.refusal.specs.Numbers.{LENGTH}
@@ -28,6 +28,13 @@ use Rattle.c_boundary.specs.Calls.{placed, nextNumber, passCall, slotCal
 pub next-two : (next : List ℕ) → nextNumber next ≡ 0 → length next ≡ 2
 unfolding nextNumber
 next-two next h = eqb-true (length next) 2 (not-refused (eqb (length next) 2) LENGTH (omega arith) h)
+
+-- two numbers set in an area of two are all of it
+pub two-set : (xs : List ℕ) (a b : ℕ) → length xs ≡ 2 → set (set xs 0 a) 1 b ≡ a ∷ b ∷ []
+two-set [] a b h = absurd (omega arith)
+two-set (x ∷ []) a b h = absurd (omega arith)
+two-set (x ∷ y ∷ []) a b h = refl
+two-set (x ∷ y ∷ z ∷ xs) a b h = absurd (omega arith)
 
 -- a state's own refusal is that of each call
 module _ (s : FrameState) (n : stateNumber s ≡ 0 → ⊥) (next : List ℕ) where

@@ -35,7 +35,7 @@ pub record Filled (rate : ℕ) (packets : List ℕ) (taken owed : ℕ) (slots be
   pub numbers :
       left
       ≡ returned (fillCall rate packets taken owed slots begins next) (takenAfter packets taken owed (length slots))
-        (owedAfter packets taken owed (length slots)) next
+      (owedAfter packets taken owed (length slots)) next
 
 -- reading: its number r, the packets' area and `next`
 pub record Received (rate : ℕ) (slots begins lost : List ℕ) (f : ℕ) (packets next : List ℕ) (r : ℕ) (area left : List ℕ) : Type 0 where
@@ -43,4 +43,4 @@ pub record Received (rate : ℕ) (slots begins lost : List ℕ) (f : ℕ) (packe
   pub numbers :
       left
       ≡ returned (readCall rate slots begins lost f packets next) (length (readingOf rate slots begins lost f .written))
-        (readingOf rate slots begins lost f .unfinished) next
+      (readingOf rate slots begins lost f .unfinished) next

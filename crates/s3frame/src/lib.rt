@@ -5,6 +5,7 @@ mod packing;
 mod slots;
 mod states;
 mod tables;
+mod tlv;
 mod tmcc_block;
 
 pub use frames::s3_code_frame;
@@ -29,5 +30,7 @@ pub use tables::s3_published_table;
 pub use tables::s3_published_tables;
 pub use tables::s3_table_entries;
 pub use tables::s3_tables_entries;
+pub use tlv::s3_tlv_fill;
+pub use tlv::s3_tlv_read;
 pub use tmcc_block::s3_code_tmcc;
 pub use tmcc_block::s3_read_tmcc;

@@ -204,7 +204,7 @@ pub record FillFields (a : FillAnswer) (n t w : ℕ) : Type 0 where
 
 pub fill-fields : (rate : ℕ) (packets : List ℕ) (taken owed : ℕ) (slots begins : List ℕ)
     → FillFields (fillAnswer rate packets taken owed slots begins) (fillNumber rate packets taken owed slots begins)
-      (takenAfter packets taken owed (length slots)) (owedAfter packets taken owed (length slots))
+    (takenAfter packets taken owed (length slots)) (owedAfter packets taken owed (length slots))
 unfolding fillAnswer
 fill-fields rate packets taken owed slots begins = go (fillNumber rate packets taken owed slots begins) (eqb (fillNumber rate packets taken owed slots begins) 0) refl
   where
