@@ -4,3 +4,4 @@ pub mod DemandTwo
 pub mod DemandThree
 pub mod WorkedByHand
 pub mod PlanRules
+pub mod TlvRules

@@ -3,14 +3,15 @@ use mathlib.Core.Path.{_≡_, refl, sym, ap, ap₂, _∙_}
 use mathlib.Core.Bool.{Bool, true, false, _&&_, _||_}
 use mathlib.Core.List.{List}
 use Prim.Native.Nat.{ℕ, zero, suc, _+_, _-_, _*_, _/_, _%_, _<_, _≤_}
-use native.Mathlib.Nat.{div-add-mod, mul-le-mul-left}
+use native.Mathlib.Nat.{div-add-mod, mul-le-mul-left, mul-mod-right}
+use native.Mathlib.Decide.{ℕ-discrete}
 use native.Mathlib.Omega.{arith}
-use borrow.Author.Tests.{lt-ltb, le-ltb, ltb-true, eq-eqb, ne-eqb, eqb-true, eqb-false, leb-true, ltb-false}
+use borrow.Author.Tests.{lt-ltb, le-ltb, ltb-true, eq-eqb, ne-eqb, eqb-true, eqb-false, leb-true, le-leb}
 use lib.Dec.{eqb, leb, ltb}
 use lib.ListN.{length, getD}
 use Rattle.lists.specs.Choice.{pick, andThen}
 use Rattle.lists.specs.ChoiceLaws.{and-left, and-right, then-zero, not-refused}
-use Rattle.lists.specs.Count.{every}
+use Rattle.lists.specs.Count.{every, first}
 use Rattle.lists.specs.CountLaws.{every-at, every-all, every-not}
 use Rattle.refusal.specs.Numbers.{PLAN, LENGTH, PACKET}
 use Rattle.plan.specs.Rates.{rateOk, rowsOf, dataBitsOf, dataOctetsOf}
@@ -18,7 +19,8 @@ use Rattle.plan.specs.RateLaws.{rate-rows, rate-sizes}
 use Rattle.tlv.specs.declared.FillAnswer.{FillAnswer}
 use Rattle.tlv.specs.declared.ReadAnswer.{ReadAnswer}
 use Rattle.tlv.specs.Packets.{packetsOk}
-use Rattle.tlv.specs.Fill.{none, filled, reports, takenAfter, owedAfter}
+use Rattle.tlv.specs.Fill.{none, streamBegins, filled, report, reports, takenAfter, owedAfter}
+use Rattle.tlv.specs.FillLaws.{reports-at, length-reports}
 use Rattle.tlv.specs.Calls.{slotsOf, slotsOk, takenOk, fillLent, fillNumber, fillAnswer, fillSlots, fillBegins, placeOk, markOk, allHold, readOk, readNumber, readingOf, readAnswer, laid, readPackets}
 
 module _ (D T b : ℕ) where
@@ -50,7 +52,7 @@ pub record Slots (D T b : ℕ) : Type 0 where
   pub whole : T ≡ D * (T / D)
   pub reports : b ≡ T / D
 
-slots-are : (D T b : ℕ) → 0 < D → slotsOk D T b ≡ true → Slots D T b
+pub slots-are : (D T b : ℕ) → 0 < D → slotsOk D T b ≡ true → Slots D T b
 unfolding slotsOk
 slots-are D T b pos h =
     let t = and-right (ltb 0 T) _ h in
@@ -77,6 +79,18 @@ place-inside D x h n = go (ltb x D) refl
 pub all-hold : (f : ℕ → Bool) (xs : List ℕ) → allHold f xs ≡ true → (k : ℕ) → k < length xs → f (getD xs k 0) ≡ true
 unfolding allHold
 all-hold f xs h k l = every-at (length xs) (λ i. f (getD xs i 0)) h k l
+
+report-place : (D : ℕ) (b : ℕ → Bool) (k : ℕ) → placeOk D (report D b k) ≡ true
+unfolding report
+report-place D b k = go (first D (λ i. b (D * k + i))) (ltb (first D (λ i. b (D * k + i))) D) refl
+  where
+    go : (r : ℕ) (t : Bool) → ltb r D ≡ t → placeOk D (pick t r none) ≡ true
+    go r true e = rw e
+    go r false e = go-none (ltb none D)
+      where
+        go-none : (t : Bool) → (t || true) ≡ true
+        go-none true = refl
+        go-none false = refl
 
 module _ (f : ℕ → Bool) (xs : List ℕ) (k : ℕ) where
   pub hold-not : k < length xs → f (getD xs k 0) ≡ false → false ≡ allHold f xs
@@ -214,3 +228,40 @@ fill-fields rate packets taken owed slots begins = go (fillNumber rate packets t
         n (takenAfter packets taken owed (length slots)) (owedAfter packets taken owed (length slots))
     go n true e = record { number = sym (eqb-true n 0 e); taken = rw e; owed = rw e }
     go n false e = record { number = refl; taken = rw e; owed = rw e }
+
+-- the reports of filling are such as reading takes
+pub reports-inside : (D n : ℕ) (packets : List ℕ) (taken owed : ℕ) → allHold (placeOk D) (reports D n packets taken owed) ≡ true
+reports-inside D n packets taken owed =
+    sym (hold-all (placeOk D) (reports D n packets taken owed) n (omega (arith, length-reports D n packets taken owed))
+    (every-all n (λ i. placeOk D (getD (reports D n packets taken owed) i 0)) (λ k l. ap (placeOk D) (reports-at D n packets taken owed k l) ∙ report-place D (streamBegins packets taken owed) k)))
+
+-- what numbers of 0 want
+slots-yes : (D T b : ℕ) → 0 < D → Slots D T b → slotsOk D T b ≡ true
+unfolding slotsOk
+slots-yes D T b pos s =
+    let l = s .least in
+    let z : T % D ≡ 0 = ap (λ (x : ℕ). x % D) (s .whole) ∙ mul-mod-right D (T / D) in
+    rw (lt-ltb 0 T (omega arith), eq-eqb (T % D) 0 z, eq-eqb b (T / D) (s .reports))
+
+pub read-accepted : (rate : ℕ) (slots begins lost : List ℕ) (f area : ℕ) → ReadReady rate slots begins lost f area → readNumber rate slots begins lost f area ≡ 0
+unfolding readNumber readOk
+read-accepted rate slots begins lost f area r =
+    let s = slots-yes (dataOctetsOf rate) (length slots) (length begins) (omega (arith, r .octets .low)) (r .lent) in
+    rw (r .known, s, eq-eqb (length lost) (length begins) (r .marks), eq-eqb area (length slots) (r .room), r .place, r .inside, r .marked)
+
+taken-yes : (L taken owed : ℕ) → taken ≤ L → owed ≤ 3 → ((owed ≡ 0 → ⊥) → (taken ≡ 0 → ⊥) → taken ≡ L) → takenOk L taken owed ≡ true
+unfolding takenOk
+taken-yes L taken owed l m h = rw (le-leb taken L l, le-leb owed 3 m) (go (ℕ-discrete owed 0) (ℕ-discrete taken 0))
+  where
+    go : Dec (owed ≡ 0) → Dec (taken ≡ 0) → (eqb owed 0 || (eqb taken 0 || eqb taken L)) ≡ true
+    go (yes a) d = rw (eq-eqb owed 0 a)
+    go (no a) (yes b) = rw (ne-eqb owed 0 a, eq-eqb taken 0 b)
+    go (no a) (no b) = rw (ne-eqb owed 0 a, ne-eqb taken 0 b, eq-eqb taken L (h a b))
+
+pub fill-accepted : (rate : ℕ) (packets : List ℕ) (taken owed : ℕ) (slots begins : List ℕ) → FillReady rate packets taken owed slots begins
+    → fillNumber rate packets taken owed slots begins ≡ 0
+unfolding fillNumber fillLent
+fill-accepted rate packets taken owed slots begins r =
+    let s = slots-yes (dataOctetsOf rate) (length slots) (length begins) (omega (arith, r .octets .low)) (r .lent) in
+    let t = taken-yes (length packets) taken owed (r .within) (r .few) (r .owing) in
+    rw (r .known, s, t, r .right)

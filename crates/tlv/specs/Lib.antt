@@ -9,6 +9,7 @@ pub mod HeadLaws
 pub mod FillLaws
 pub mod Honest
 pub mod SlotLaws
+pub mod LostLaws
 pub mod ReadForward
 pub mod ReadLaws
 pub mod SentLaws

@@ -69,6 +69,10 @@ module _ (D n : ℕ) (lost : List ℕ) where
   clear pos p e i c l a b =
       unmet p e (i / D) (omega (arith, slot-below D pos i n (omega arith))) (slot-up D pos p i a) (omega (arith, slot-low D pos i))
 
+pub after-same : (r q : ℕ → Reading) → ((p : ℕ) → r p ≡ q p) → (s : Step) → after r s ≡ after q s
+after-same r q h (stop u) = refl
+after-same r q h (on xs p) = rw (h p)
+
 -- two readings of octets that agree outside lost slots are the same
 module _ (D n : ℕ) (pos : 0 < D) (lost begins : List ℕ) where
   whole-same : (p e : ℕ) (s t : Step) → (n ≤ meets D n lost p e → e ≤ D * n → s ≡ t) → whole D n lost begins p e s ≡ whole D n lost begins p e t
@@ -80,10 +84,6 @@ module _ (D n : ℕ) (pos : 0 < D) (lost begins : List ℕ) where
       go true y a b = refl
       go false true a b = refl
       go false false a b = h (ltb-false _ n a) (ltb-false (D * n) e b)
-
-  after-same : (r q : ℕ → Reading) → ((p : ℕ) → r p ≡ q p) → (s : Step) → after r s ≡ after q s
-  after-same r q h (stop u) = refl
-  after-same r q h (on xs p) = rw (h p)
 
   module _ (o u : ℕ → ℕ) (agree : (i : ℕ) → i < D * n → lostSlot lost (i / D) ≡ false → o i ≡ u i) where
     step-same : (p : ℕ) → step D n lost begins o p ≡ step D n lost begins u p

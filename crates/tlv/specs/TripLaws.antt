@@ -15,6 +15,7 @@ use Rattle.lists.specs.Count.{first, joined, table}
 use Rattle.lists.specs.CountLaws.{getD-table, joined-same}
 use Rattle.tlv.specs.Packets.{octets, packetsOk, sizeAt, emptyNull, headAt}
 use Rattle.tlv.specs.Fill.{streamAt, streamBegins, filled, report, reports}
+use Rattle.tlv.specs.FillLaws.{reports-at}
 use Rattle.tlv.specs.Honest.{stream-honest}
 use Rattle.tlv.specs.Read.{lostSlot, meets, Reading, read, start}
 use Rattle.tlv.specs.Sent.{cutAt, sentPacket, sentPackets, sentCut, plainPacket}
@@ -34,8 +35,7 @@ lost-unseen D n pos lost begins xs ys h = read-same D n pos lost begins (octets 
 
 module _ (D n : ℕ) (pos : 0 < D) (small : D ≤ 65535) (some : 0 < n) (packets : List ℕ) (taken owed : ℕ) (ok : packetsOk packets ≡ true) where
   reports-told : (k : ℕ) → k < n → Told D (streamBegins packets taken owed) k (getD (reports D n packets taken owed) k 0)
-  unfolding reports
-  reports-told k h = rw (getD-table n (report D (streamBegins packets taken owed)) k h) (report-told D small (streamBegins packets taken owed) k)
+  reports-told k h = rw (reports-at D n packets taken owed k h) (report-told D small (streamBegins packets taken owed) k)
 
   pub filled-read : (lost slots : List ℕ) → Agree D n lost slots (filled packets taken owed (D * n))
       → (f : ℕ) → ((f ≡ 65535 → ⊥) → f ≡ getD (reports D n packets taken owed) 0 0)

@@ -10,10 +10,10 @@ use lib.Dec.{eqb, ltb}
 use lib.ListN.{length, getD}
 use Rattle.lists.specs.Choice.{pick}
 use Rattle.lists.specs.Count.{first}
-use Rattle.lists.specs.CountLaws.{first-is, getD-table, length-table}
+use Rattle.lists.specs.CountLaws.{first-is}
 use Rattle.tlv.specs.Packets.{octets, packetsOk, sizeAt, headFrom, headAt}
 use Rattle.tlv.specs.PacketLaws.{Packet, size-least, size-same, head-packet}
-use Rattle.tlv.specs.Fill.{filler, sentAt, sentBegins, streamBegins, report, reports, lacking}
+use Rattle.tlv.specs.Fill.{filler, sentAt, sentBegins, streamBegins, report, lacking}
 use Rattle.tlv.specs.FillLaws.{sent-behind, begins-behind}
 use Rattle.tlv.specs.Honest.{sent-within, begins-within, sent-honest}
 
@@ -122,11 +122,3 @@ module _ (D k : ℕ) (packets : List ℕ) (taken owed r : ℕ) (step : 0 < k →
       go : Dec (owed + (r - taken) - D * k < D) → pick (ltb (owed + (r - taken) - D * k) D) (owed + (r - taken) - D * k) 65535 ≡ report D (streamBegins packets taken owed) k
       go (yes l) = rw (lt-ltb (owed + (r - taken) - D * k) D l) (report-here (omega arith))
       go (no l) = rw (le-ltb (owed + (r - taken) - D * k) D (omega arith)) (report-none (omega arith))
-
-pub reports-at : (D n : ℕ) (packets : List ℕ) (taken owed k : ℕ) → k < n → getD (reports D n packets taken owed) k 0 ≡ report D (streamBegins packets taken owed) k
-unfolding reports
-reports-at D n packets taken owed k l = getD-table n (report D (streamBegins packets taken owed)) k l
-
-pub length-reports : (D n : ℕ) (packets : List ℕ) (taken owed : ℕ) → length (reports D n packets taken owed) ≡ n
-unfolding reports
-length-reports D n packets taken owed = length-table n (report D (streamBegins packets taken owed))

@@ -10,7 +10,8 @@ use lib.ListN.{length, getD}
 use Rattle.lists.specs.Filling.{Filling}
 use Rattle.lists.specs.FillingLaws.{filling-none, filling-more, filling-all}
 use Rattle.tlv.specs.Fill.{reports}
-use Rattle.tlv_fill.specs.BeginTurns.{Ahead, ahead-start, ahead-later, report-at, reports-at, length-reports}
+use Rattle.tlv.specs.FillLaws.{reports-at, length-reports}
+use Rattle.tlv_fill.specs.BeginTurns.{Ahead, ahead-start, ahead-later, report-at}
 use Rattle.tlv_fill.specs.Needs.{MarkNeeds}
 use Rattle.tlv_fill.proofs.begins.mark_begins.Statement.{statement}
 use Rattle.tlv_fill.proofs.begins.mark_begins.Tie as tie
