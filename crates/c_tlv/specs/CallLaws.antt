@@ -2,23 +2,21 @@
 use mathlib.Core.Path.{_≡_, refl, sym, ap, _∙_}
 use mathlib.Core.Bool.{Bool, true, false}
 use mathlib.Core.List.{List, [], _∷_}
-use Prim.Native.Nat.{ℕ, _<_}
+use Prim.Native.Nat.{ℕ}
 use native.Mathlib.Omega.{arith}
-use borrow.Author.Tests.{eq-eqb, ne-eqb, eqb-true}
+use borrow.Author.Tests.{eq-eqb, ne-eqb}
 use lib.Dec.{eqb}
 use lib.ListN.{length}
 use Rattle.lists.specs.Choice.{pick, andThen}
-use Rattle.lists.specs.ChoiceLaws.{then-zero, then-next, then-first, onward}
+use Rattle.lists.specs.ChoiceLaws.{then-zero, then-next, then-first}
 use Rattle.refusal.specs.Numbers.{PLAN}
-use Rattle.refusal.specs.Answers.{Answered}
 use Rattle.refusal.specs.AnswerLaws.{refused}
-use Rattle.plan.specs.Rates.{rateOk, dataOctetsOf}
+use Rattle.plan.specs.Rates.{rateOk}
 use Rattle.tlv.specs.declared.FillAnswer.{FillAnswer}
 use Rattle.tlv.specs.declared.ReadAnswer.{ReadAnswer}
-use Rattle.tlv.specs.Fill.{filled, reports, takenAfter, owedAfter}
-use Rattle.tlv.specs.Read.{Reading}
+use Rattle.tlv.specs.Fill.{takenAfter, owedAfter}
 use Rattle.tlv.specs.CallLaws.{fill-fields}
-use Rattle.tlv.specs.Calls.{slotsOf, fillLent, packetNumber, fillNumber, fillAnswer, fillSlots, fillBegins, readNumber, readingOf, readAnswer, laid, readPackets}
+use Rattle.tlv.specs.Calls.{fillLent, fillNumber, fillAnswer, fillSlots, fillBegins, readNumber, readingOf, readAnswer, readPackets}
 use Rattle.c_boundary.specs.Calls.{nextNumber}
 use Rattle.c_boundary.specs.CallLaws.{next-two}
 use Rattle.c_boundary.specs.Narrow.{narrowed}

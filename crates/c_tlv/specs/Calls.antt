@@ -9,7 +9,6 @@ use Rattle.lists.specs.Choice.{pick, andThen}
 use Rattle.refusal.specs.Answers.{Answered}
 use Rattle.plan.specs.Rates.{dataOctetsOf}
 use Rattle.tlv.specs.Fill.{filled, reports, takenAfter, owedAfter}
-use Rattle.tlv.specs.Read.{Reading}
 use Rattle.tlv.specs.Calls.{slotsOf, fillLent, packetNumber, readNumber, readingOf, laid}
 use Rattle.c_boundary.specs.Calls.{nextNumber}
 

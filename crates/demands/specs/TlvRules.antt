@@ -1,17 +1,16 @@
 -- Proofs of the statements on TLV packets (document 02, N2).
 use mathlib.Core.Path.{_≡_, refl, sym, ap, ap₂, _∙_}
 use mathlib.Core.Bool.{Bool, true, false, _&&_, _||_}
-use mathlib.Core.List.{List, [], _∷_, _++_}
-use Prim.Native.Nat.{ℕ, _+_, _-_, _*_, _/_, _<_, _≤_}
-use native.Mathlib.Nat.{mul-add, mul-div-cancel-left, mul-le-mul-left}
+use mathlib.Core.List.{List, _++_}
+use Prim.Native.Nat.{ℕ, _+_, _-_, _*_, _/_, _<_}
+use native.Mathlib.Nat.{mul-add, mul-div-cancel-left}
 use native.Mathlib.Decide.{ℕ-discrete}
 use native.Mathlib.Omega.{arith}
-use borrow.Author.Tests.{eq-eqb, ne-eqb, lt-ltb}
+use borrow.Author.Tests.{eq-eqb}
 use lib.Dec.{eqb, ltb}
 use lib.ListN.{length, getD, length-append}
 use Rattle.lists.specs.Choice.{pick}
 use Rattle.lists.specs.Count.{first, table}
-use Rattle.lists.specs.CountLaws.{getD-table, length-table}
 use Rattle.refusal.specs.Numbers.{PLAN, LENGTH, PACKET}
 use Rattle.plan.specs.Rates.{rateOk, dataOctetsOf}
 use Rattle.tlv.specs.Packets.{octets, packetsOk}
@@ -19,7 +18,7 @@ use Rattle.tlv.specs.Fill.{none, filled, reports, takenAfter, owedAfter, report
 use Rattle.tlv.specs.FillLaws.{length-reports, owed-small, owed-behind, taken-within, OneCall, two-calls}
 use Rattle.tlv.specs.Read.{lostSlot, Reading, read, start}
 use Rattle.tlv.specs.Sent.{sentPackets, sentCut}
-use Rattle.tlv.specs.Calls.{slotsOf, slotsOk, takenOk, fillLent, fillNumber, fillAnswer, fillSlots, fillBegins, placeOk, markOk, allHold, readOk, readNumber, readAnswer, readPackets, readingOf, laid}
+use Rattle.tlv.specs.Calls.{slotsOf, slotsOk, takenOk, fillLent, fillNumber, fillAnswer, fillSlots, fillBegins, placeOk, readOk, readNumber, readAnswer, readPackets, readingOf}
 use Rattle.tlv.specs.CallLaws.{Slots, slots-are, FillReady, fill-ready, fill-accepted, ReadReady, read-ready, read-accepted, reports-inside, all-hold}
 use Rattle.tlv.specs.TripLaws.{round-trip, plain-all}
 use Rattle.tlv.specs.SlotLaws.{read-same}

@@ -1,21 +1,21 @@
 -- Laws of the calls' numbers: the ways out of the tests, and what a call with number 0 had.
 use mathlib.Core.Path.{_≡_, refl, sym, ap, ap₂, _∙_}
-use mathlib.Core.Bool.{Bool, true, false, _&&_, _||_}
+use mathlib.Core.Bool.{Bool, true, false, _||_}
 use mathlib.Core.List.{List}
 use Prim.Native.Nat.{ℕ, zero, suc, _+_, _-_, _*_, _/_, _%_, _<_, _≤_}
 use native.Mathlib.Nat.{div-add-mod, mul-le-mul-left, mul-mod-right}
 use native.Mathlib.Decide.{ℕ-discrete}
 use native.Mathlib.Omega.{arith}
-use borrow.Author.Tests.{lt-ltb, le-ltb, ltb-true, eq-eqb, ne-eqb, eqb-true, eqb-false, leb-true, le-leb}
+use borrow.Author.Tests.{lt-ltb, le-ltb, ltb-true, eq-eqb, ne-eqb, eqb-true, leb-true, le-leb}
 use lib.Dec.{eqb, leb, ltb}
 use lib.ListN.{length, getD}
-use Rattle.lists.specs.Choice.{pick, andThen}
+use Rattle.lists.specs.Choice.{pick}
 use Rattle.lists.specs.ChoiceLaws.{and-left, and-right, then-zero, not-refused}
 use Rattle.lists.specs.Count.{every, first}
 use Rattle.lists.specs.CountLaws.{every-at, every-all, every-not}
 use Rattle.refusal.specs.Numbers.{PLAN, LENGTH, PACKET}
-use Rattle.plan.specs.Rates.{rateOk, rowsOf, dataBitsOf, dataOctetsOf}
-use Rattle.plan.specs.RateLaws.{rate-rows, rate-sizes}
+use Rattle.plan.specs.Rates.{rateOk, dataBitsOf, dataOctetsOf}
+use Rattle.plan.specs.RateLaws.{rate-rows}
 use Rattle.tlv.specs.declared.FillAnswer.{FillAnswer}
 use Rattle.tlv.specs.declared.ReadAnswer.{ReadAnswer}
 use Rattle.tlv.specs.Packets.{packetsOk}

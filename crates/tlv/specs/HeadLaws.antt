@@ -1,5 +1,5 @@
 -- Heads and bodies by what their octets are: the ways out of the functions that test them.
-use mathlib.Core.Path.{_≡_, refl, sym, ap, _∙_}
+use mathlib.Core.Path.{_≡_, sym, ap, _∙_}
 use mathlib.Core.Bool.{Bool, true, false}
 use Prim.Native.Nat.{ℕ, _+_, _-_, _*_}
 use borrow.Author.Tests.{eq-eqb, ne-eqb}

@@ -1,16 +1,14 @@
 -- An honest stream: what begins is a right packet, and the next begins behind it. Filling makes one.
-use mathlib.Core.Path.{_≡_, refl, sym, ap, ap₂, _∙_}
-use mathlib.Core.Bool.{Bool, true, false, not, _&&_, _||_}
-use mathlib.Core.List.{List, [], _∷_}
-use Prim.Native.Nat.{ℕ, zero, suc, _+_, _-_, _*_, _%_, _<_, _≤_}
-use native.Mathlib.Nat.{add-zero}
-use native.Mathlib.Decide.{decLe, decLt, ℕ-discrete}
+use mathlib.Core.Path.{_≡_, sym, ap, _∙_}
+use mathlib.Core.Bool.{Bool, true, false, not}
+use mathlib.Core.List.{List}
+use Prim.Native.Nat.{ℕ, _+_, _-_, _%_, _<_, _≤_}
+use native.Mathlib.Decide.{decLt}
 use native.Mathlib.Omega.{arith}
 use borrow.Author.Tests.{lt-ltb, le-ltb, ltb-false, eq-eqb, ne-eqb, eqb-true, not-true}
-use lib.Dec.{eqb, ltb}
+use lib.Dec.{ltb}
 use lib.ListN.{length, getD}
-use Rattle.lists.specs.Choice.{pick}
-use Rattle.lists.specs.ChoiceLaws.{and-left, and-right, and-both}
+use Rattle.lists.specs.ChoiceLaws.{and-left}
 use Rattle.tlv.specs.Packets.{octets, packetsOk, typeOk, headOk, sizeAt, bodyOk, headAt}
 use Rattle.tlv.specs.PacketLaws.{Packet, size-least, head-same, size-same, body-same, head-packet, head-next, head-between}
 use Rattle.tlv.specs.Fill.{filler, sentAt, sentBegins, streamAt, streamBegins}

@@ -1,20 +1,18 @@
 -- A lost slot is never looked at: neither its octets nor its report.
-use mathlib.Core.Path.{_≡_, refl, sym, ap, _∙_}
-use mathlib.Core.Bool.{Bool, true, false, not, _&&_, and-false}
+use mathlib.Core.Path.{_≡_, refl}
+use mathlib.Core.Bool.{Bool, true, false, not, _&&_}
 use mathlib.Core.List.{List}
 use Prim.Native.Nat.{ℕ, zero, suc, _+_, _*_, _/_, _<_}
-use native.Mathlib.Omega.{arith}
 use borrow.Author.Tests.{ltb-true, not-true}
 use lib.Dec.{eqb, leb, ltb}
 use lib.ListN.{getD}
 use Rattle.lists.specs.Choice.{pick}
 use Rattle.lists.specs.ChoiceLaws.{and-left, and-right}
 use Rattle.lists.specs.CountLaws.{first-first}
-use Rattle.tlv.specs.Packets.{octets}
 use Rattle.tlv.specs.Fill.{none}
 use Rattle.tlv.specs.FillLaws.{first-same}
-use Rattle.tlv.specs.Read.{lostSlot, meets, reporting, onFrom, Step, whole, wrong, step, Reading, after, read, start}
-use Rattle.tlv.specs.SlotLaws.{after-same, read-same}
+use Rattle.tlv.specs.Read.{lostSlot, meets, reporting, onFrom, Step, whole, wrong, step, read, start}
+use Rattle.tlv.specs.SlotLaws.{after-same}
 
 -- two readings whose reports agree in all slots that are not lost
 module _ (D n : ℕ) (lost begins told : List ℕ) (heard : (k : ℕ) → k < n → lostSlot lost k ≡ false → getD begins k 0 ≡ getD told k 0) where

@@ -1,17 +1,15 @@
 -- Laws of packets in octets by position: two places whose octets agree hold the same packet; heads of packetsFrom packets.
-use mathlib.Core.Path.{_≡_, refl, sym, ap, ap₂, _∙_}
-use mathlib.Core.Bool.{Bool, true, false, not, _&&_, _||_}
-use mathlib.Core.List.{List, [], _∷_}
-use Prim.Native.Nat.{ℕ, zero, suc, _+_, _-_, _*_, _<_, _≤_}
+use mathlib.Core.Path.{_≡_, refl, sym, ap, _∙_}
+use mathlib.Core.Bool.{Bool, true, false, not, _||_}
+use Prim.Native.Nat.{ℕ, zero, suc, _+_, _-_, _<_, _≤_}
 use native.Mathlib.Nat.{add-zero}
-use native.Mathlib.Decide.{decLt, ℕ-discrete}
 use native.Mathlib.Omega.{arith}
 use borrow.Author.Tests.{lt-ltb, le-ltb, ltb-true, eq-eqb, ne-eqb, eqb-true, leb-true}
 use lib.Dec.{eqb, leb, ltb}
 use Rattle.lists.specs.ChoiceLaws.{and-left, and-right, same-test}
-use Rattle.lists.specs.Count.{every, table}
+use Rattle.lists.specs.Count.{every}
 use Rattle.lists.specs.CountLaws.{every-at, every-all, table-same}
-use Rattle.tlv.specs.Packets.{octets, typeOk, headOk, sizeAt, bodyOk, emptyNull, run, packetsFrom, headFrom}
+use Rattle.tlv.specs.Packets.{headOk, sizeAt, bodyOk, emptyNull, run, packetsFrom, headFrom}
 
 pub size-least : (o : ℕ → ℕ) (p : ℕ) → 4 ≤ sizeAt o p
 unfolding sizeAt

@@ -1,12 +1,12 @@
 -- Every step of a reading goes on: any number of steps that is enough gives the same reading, and what it writes fits.
 use mathlib.Core.Path.{_≡_, refl, sym, ap, _∙_}
 use mathlib.Core.Bool.{Bool, true, false, not, _&&_}
-use mathlib.Core.List.{List, [], _∷_, _++_}
+use mathlib.Core.List.{List, []}
 use Prim.Native.Nat.{ℕ, zero, suc, _+_, _-_, _*_, _/_, _<_, _≤_}
 use native.Mathlib.Nat.{mul-le-mul-left}
 use native.Mathlib.Decide.{decLt}
 use native.Mathlib.Omega.{arith}
-use borrow.Author.Tests.{ltb-true, ltb-false, leb-true, eqb-true, eqb-false, not-true}
+use borrow.Author.Tests.{ltb-true, ltb-false, leb-true, eqb-false, not-true}
 use lib.Dec.{eqb, leb, ltb}
 use lib.ListN.{length, getD, length-append}
 use Rattle.lists.specs.Choice.{pick}
@@ -14,7 +14,7 @@ use Rattle.lists.specs.ChoiceLaws.{and-left, and-right}
 use Rattle.lists.specs.CountLaws.{First, first-first, length-table}
 use Rattle.tlv.specs.Packets.{headOk, sizeAt, bodyOk, emptyNull, run}
 use Rattle.tlv.specs.PacketLaws.{size-least}
-use Rattle.tlv.specs.Read.{lostSlot, meets, reporting, onFrom, Step, stop, on, whole, wrong, step, Reading, after, read, start}
+use Rattle.tlv.specs.Read.{lostSlot, meets, reporting, onFrom, Step, stop, on, whole, wrong, step, Reading, after, read}
 use Rattle.tlv.specs.SlotLaws.{slot-high, slot-below, met}
 
 -- a step from p, of T octets, goes on and writes no more than it passes

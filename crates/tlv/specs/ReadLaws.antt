@@ -1,26 +1,25 @@
 -- Reading an honest stream with its reports gives what arrives of it.
-use mathlib.Core.Path.{_≡_, refl, sym, ap, ap₂, _∙_}
+use mathlib.Core.Path.{_≡_, refl, sym, ap, _∙_}
 use mathlib.Core.Bool.{Bool, true, false, not, _&&_}
-use mathlib.Core.List.{List, [], _∷_, _++_, append-nil, append-assoc}
+use mathlib.Core.List.{List, [], _++_, append-nil, append-assoc}
 use Prim.Native.Nat.{ℕ, zero, suc, _+_, _-_, _*_, _/_, _<_, _≤_}
-use native.Mathlib.Nat.{add-zero, add-suc, mul-le-mul-left}
-use native.Mathlib.Numerals.{add-one}
-use native.Mathlib.Decide.{decLe, decLt, ℕ-discrete}
+use native.Mathlib.Nat.{add-zero, mul-le-mul-left}
+use native.Mathlib.Decide.{decLt}
 use native.Mathlib.Omega.{arith}
 use borrow.Author.Tests.{lt-ltb, le-ltb, ltb-true, ltb-false, le-leb, lt-leb, leb-true, eq-eqb, ne-eqb, eqb-true, eqb-false, not-false}
 use lib.Dec.{eqb, leb, ltb}
-use lib.ListN.{length, getD}
+use lib.ListN.{getD}
 use Rattle.lists.specs.Choice.{pick}
-use Rattle.lists.specs.ChoiceLaws.{and-left, and-right, and-both, clash, false-of}
+use Rattle.lists.specs.ChoiceLaws.{and-left, and-right, clash}
 use Rattle.lists.specs.Count.{first, joined}
 use Rattle.lists.specs.CountLaws.{First, first-first, first-is, joined-none, joined-more}
-use Rattle.tlv.specs.Packets.{headOk, sizeAt, bodyOk, emptyNull, run}
+use Rattle.tlv.specs.Packets.{sizeAt, emptyNull, run}
 use Rattle.tlv.specs.PacketLaws.{size-least}
 use Rattle.tlv.specs.Fill.{report}
-use Rattle.tlv.specs.Honest.{Honest, HonestAt}
+use Rattle.tlv.specs.Honest.{Honest}
 use Rattle.tlv.specs.Read.{lostSlot, meets, reporting, onFrom, Step, stop, on, whole, step, Reading, after, read, start}
 use Rattle.tlv.specs.Sent.{untouched, cutAt}
-use Rattle.tlv.specs.SlotLaws.{slot-low, slot-high, slot-below, slot-from, met, Met, meets-lost, meets-first}
+use Rattle.tlv.specs.SlotLaws.{slot-low, slot-high, slot-below, slot-from, met, Met, meets-lost}
 
 -- the octets of what begins at i, where it is whole, touches no lost slot and is no empty null
 unfoldable pub arrives : ℕ → ℕ → List ℕ → (ℕ → ℕ) → (ℕ → Bool) → ℕ → List ℕ

@@ -1,28 +1,23 @@
 -- What arrives of a filled stream is what arrives of the lent packets.
-use mathlib.Core.Path.{_≡_, refl, sym, ap, ap₂, _∙_}
-use mathlib.Core.Bool.{Bool, true, false, not, _&&_, and-false}
-use mathlib.Core.List.{List, [], _∷_, _++_, append-nil}
+use mathlib.Core.Path.{_≡_, refl, sym, ap, _∙_}
+use mathlib.Core.Bool.{Bool, true, false, and-false}
+use mathlib.Core.List.{List, [], _++_}
 use Prim.Native.Nat.{ℕ, zero, suc, _+_, _-_, _*_, _%_, _<_, _≤_}
-use native.Mathlib.Nat.{add-zero, add-suc}
-use native.Mathlib.Numerals.{add-one}
-use native.Mathlib.Decide.{decLe, decLt}
+use native.Mathlib.Nat.{add-zero}
 use native.Mathlib.Omega.{arith}
-use borrow.Author.Tests.{lt-ltb, le-ltb, le-leb, lt-leb, eqb-true, ltb-false, not-true}
-use lib.Dec.{eqb, leb, ltb}
+use borrow.Author.Tests.{lt-ltb, le-ltb, le-leb, lt-leb, eqb-true}
+use lib.Dec.{leb}
 use lib.ListN.{length, getD}
 use lib.Seq.{getD-take, getD-drop}
-use Rattle.lists.specs.Choice.{pick}
-use Rattle.lists.specs.ChoiceLaws.{and-left, and-right}
-use Rattle.lists.specs.Count.{joined, table}
+use Rattle.lists.specs.Count.{joined}
 use Rattle.lists.specs.CountLaws.{joined-none, joined-more, joined-same, table-is, table-same}
 use Rattle.lists.specs.Parts.{part}
 use Rattle.lists.specs.PartLaws.{length-part}
-use Rattle.tlv.specs.Packets.{octets, packetsOk, typeOk, headOk, sizeAt, bodyOk, emptyNull, run, headAt}
-use Rattle.tlv.specs.PacketLaws.{Packet, size-least, size-same, null-same, run-same, head-packet}
+use Rattle.tlv.specs.Packets.{octets, packetsOk, sizeAt, emptyNull, run, headAt}
+use Rattle.tlv.specs.PacketLaws.{Packet, size-least, size-same, null-same, head-packet}
 use Rattle.tlv.specs.Fill.{filler, sentAt, sentBegins, streamAt, streamBegins}
 use Rattle.tlv.specs.FillLaws.{sent-behind, begins-behind}
 use Rattle.tlv.specs.Honest.{sent-within, begins-within}
-use Rattle.tlv.specs.Read.{meets}
 use Rattle.tlv.specs.ReadLaws.{arrives, joined-quiet}
 use Rattle.tlv.specs.Sent.{untouched, sentPacket}
 

@@ -1,18 +1,17 @@
 -- Laws of slots and lost slots, and: a lost slot's octets are never looked at.
-use mathlib.Core.Path.{_≡_, refl, sym, ap, ap₂, _∙_}
-use mathlib.Core.Bool.{Bool, true, false, not, _&&_}
-use mathlib.Core.List.{List, [], _∷_, _++_}
+use mathlib.Core.Path.{_≡_, refl, ap}
+use mathlib.Core.Bool.{Bool, true, false, _&&_}
+use mathlib.Core.List.{List, []}
 use Prim.Native.Nat.{ℕ, zero, suc, _+_, _-_, _*_, _/_, _<_, _≤_}
 use native.Mathlib.Nat.{mul-comm, mul-div-le, lt-mul-div-succ, div-lt-iff-lt-mul, le-div-iff-mul-le}
 use native.Mathlib.Decide.{decLt}
 use native.Mathlib.Omega.{arith}
-use borrow.Author.Tests.{lt-ltb, le-ltb, ltb-true, ltb-false, le-leb, leb-true}
+use borrow.Author.Tests.{lt-ltb, ltb-true, ltb-false, le-leb, leb-true}
 use lib.Dec.{eqb, leb, ltb}
 use Rattle.lists.specs.Choice.{pick}
 use Rattle.lists.specs.ChoiceLaws.{and-left, and-right, clash}
-use Rattle.lists.specs.Count.{first}
 use Rattle.lists.specs.CountLaws.{First, first-first, table-same}
-use Rattle.tlv.specs.Packets.{headOk, sizeAt, bodyOk, emptyNull, run}
+use Rattle.tlv.specs.Packets.{headOk, sizeAt, run}
 use Rattle.tlv.specs.PacketLaws.{head-same, size-same, null-same, body-same}
 use Rattle.tlv.specs.Read.{lostSlot, lostFrom, meets, onFrom, Step, stop, on, whole, wrong, step, Reading, after, read}
 

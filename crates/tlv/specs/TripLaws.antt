@@ -1,5 +1,5 @@
 -- (a) What was filled and is read with its reports, some slots lost, is what arrives of it.
-use mathlib.Core.Path.{_≡_, refl, sym, ap, _∙_}
+use mathlib.Core.Path.{_≡_, refl, ap, _∙_}
 use mathlib.Core.Bool.{Bool, true, false, not, _&&_}
 use mathlib.Core.List.{List, []}
 use Prim.Native.Nat.{ℕ, _+_, _-_, _*_, _/_, _<_, _≤_}
@@ -11,14 +11,14 @@ use Rattle.lists.specs.ChoiceLaws.{clash}
 use Rattle.lists.specs.Parts.{part}
 use native.Mathlib.Omega.{arith}
 use lib.ListN.{length, getD}
-use Rattle.lists.specs.Count.{first, joined, table}
+use Rattle.lists.specs.Count.{first, joined}
 use Rattle.lists.specs.CountLaws.{getD-table, joined-same}
 use Rattle.tlv.specs.Packets.{octets, packetsOk, sizeAt, emptyNull, headAt}
-use Rattle.tlv.specs.Fill.{streamAt, streamBegins, filled, report, reports}
+use Rattle.tlv.specs.Fill.{streamAt, streamBegins, filled, reports}
 use Rattle.tlv.specs.FillLaws.{reports-at}
 use Rattle.tlv.specs.Honest.{stream-honest}
-use Rattle.tlv.specs.Read.{lostSlot, meets, Reading, read, start}
-use Rattle.tlv.specs.Sent.{cutAt, sentPacket, sentPackets, sentCut, plainPacket}
+use Rattle.tlv.specs.Read.{lostSlot, meets, read, start}
+use Rattle.tlv.specs.Sent.{cutAt, sentPacket, plainPacket}
 use Rattle.tlv.specs.SentLaws.{arrives-sent}
 use Rattle.tlv.specs.PacketLaws.{head-packet}
 use Rattle.tlv.specs.SlotLaws.{read-same, met}

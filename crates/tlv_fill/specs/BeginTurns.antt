@@ -1,20 +1,20 @@
 -- The loops that find the beginnings.
-use mathlib.Core.Path.{_≡_, refl, sym, ap, _∙_}
-use mathlib.Core.Bool.{Bool, true, false, not, _&&_}
+use mathlib.Core.Path.{_≡_, refl, sym, _∙_}
+use mathlib.Core.Bool.{Bool, true, false}
 use mathlib.Core.List.{List}
 use Prim.Native.Nat.{ℕ, zero, suc, _+_, _-_, _*_, _%_, _<_, _≤_}
 use native.Mathlib.Decide.{decLt}
 use native.Mathlib.Omega.{arith}
-use borrow.Author.Tests.{lt-ltb, le-ltb, eqb-true, eq-eqb, ne-eqb}
-use lib.Dec.{eqb, ltb}
-use lib.ListN.{length, getD}
+use borrow.Author.Tests.{lt-ltb, le-ltb, eq-eqb, ne-eqb}
+use lib.Dec.{ltb}
+use lib.ListN.{length}
 use Rattle.lists.specs.Choice.{pick}
 use Rattle.lists.specs.Count.{first}
 use Rattle.lists.specs.CountLaws.{first-is}
-use Rattle.tlv.specs.Packets.{octets, packetsOk, sizeAt, headFrom, headAt}
+use Rattle.tlv.specs.Packets.{octets, packetsOk, sizeAt, headFrom}
 use Rattle.tlv.specs.PacketLaws.{Packet, size-least, size-same, head-packet}
-use Rattle.tlv.specs.Fill.{filler, sentAt, sentBegins, streamBegins, report, lacking}
-use Rattle.tlv.specs.FillLaws.{sent-behind, begins-behind}
+use Rattle.tlv.specs.Fill.{sentAt, sentBegins, streamBegins, report, lacking}
+use Rattle.tlv.specs.FillLaws.{begins-behind}
 use Rattle.tlv.specs.Honest.{sent-within, begins-within, sent-honest}
 
 -- r is the first beginning at or behind `target`, in the packets and the fillers behind them

@@ -2,7 +2,7 @@
 use mathlib.Core.Path.{_≡_, refl, sym, ap, _∙_}
 use mathlib.Core.List.{List}
 use mathlib.Core.Bool.{Bool, true, false}
-use Prim.Native.Nat.{ℕ, _*_, _/_, _<_, _≤_}
+use Prim.Native.Nat.{ℕ, _*_, _<_, _≤_}
 use native.Mathlib.Nat.{mul-le-mul-left}
 use native.Mathlib.Omega.{arith}
 use borrow.Author.Tests.{eqb-false}
@@ -12,7 +12,7 @@ use Rattle.lists.specs.Choice.{pick}
 use Rattle.plan.specs.Rates.{dataOctetsOf}
 use Rattle.tlv.specs.Packets.{octets}
 use Rattle.tlv.specs.Fill.{none}
-use Rattle.tlv.specs.Read.{Reading, onFrom, read, start}
+use Rattle.tlv.specs.Read.{onFrom, read, start}
 use Rattle.tlv.specs.ReadForward.{Inside, on-within}
 use Rattle.tlv.specs.Calls.{readNumber, readingOf}
 use Rattle.tlv.specs.CallLaws.{ReadReady, read-ready, place-inside, all-hold}

@@ -1,7 +1,7 @@
 -- The reading's loop: the area holds what was written, and the reading from p on is left.
 use mathlib.Core.Path.{_≡_, refl, sym, ap, ap₂, _∙_}
 use mathlib.Core.Bool.{Bool, true, false}
-use mathlib.Core.List.{List, [], _∷_, _++_, append-nil, append-assoc}
+use mathlib.Core.List.{List, [], _++_, append-nil, append-assoc}
 use Prim.Native.Nat.{ℕ, _+_, _-_, _*_, _<_, _≤_}
 use native.Mathlib.Omega.{arith}
 use lib.ListN.{length, take, drop, take-append-drop}
@@ -10,10 +10,10 @@ use Rattle.lists.specs.Parts.{part, put}
 use Rattle.lists.specs.PartLaws.{take-put-end, drop-put, length-put}
 use Rattle.lists.specs.CountLaws.{length-table}
 use Rattle.tlv.specs.Packets.{octets, run}
-use Rattle.tlv.specs.Read.{Step, stop, on, step, Reading, after, read}
+use Rattle.tlv.specs.Read.{on, step, Reading, after, read}
 use Rattle.tlv.specs.ReadForward.{Inside, Forward, forward, read-enough, read-loop}
 use Rattle.tlv.specs.SentLaws.{part-run}
-use Rattle.tlv_read.specs.Needs.{Marked, Reported, Lent, ReadNeeds, ReadIs, moved}
+use Rattle.tlv_read.specs.Needs.{ReadNeeds, ReadIs, moved}
 
 module _ (D n : ℕ) (lost begins slots : List ℕ) (from : ℕ) where
   unfoldable pub goal : Reading

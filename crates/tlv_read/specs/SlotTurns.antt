@@ -1,6 +1,6 @@
 -- The loops over slots: the first lost one, and the next that reports a beginning.
-use mathlib.Core.Path.{_≡_, refl, sym, ap, _∙_}
-use mathlib.Core.Bool.{Bool, true, false, not, _&&_, and-false}
+use mathlib.Core.Path.{_≡_, sym}
+use mathlib.Core.Bool.{Bool, false, not, _&&_, and-false}
 use mathlib.Core.List.{List}
 use Prim.Native.Nat.{ℕ, _+_, _-_, _*_, _<_, _≤_}
 use native.Mathlib.Nat.{mul-le-mul-left, mul-le-mul-right}
@@ -9,8 +9,7 @@ use native.Mathlib.Omega.{arith}
 use borrow.Author.Tests.{lt-ltb, le-ltb, le-leb, lt-leb, eq-eqb, ne-eqb}
 use lib.Dec.{eqb, leb, ltb}
 use lib.ListN.{getD}
-use Rattle.lists.specs.Choice.{pick}
-use Rattle.lists.specs.CountLaws.{First, first-is}
+use Rattle.lists.specs.CountLaws.{first-is}
 use Rattle.tlv.specs.Read.{lostSlot, lostFrom, reporting, onFrom}
 
 module _ (D n : ℕ) (lost : List ℕ) (s e : ℕ) where

@@ -39,6 +39,13 @@ module _ (D n : ℕ) (lost begins : List ℕ) (o : ℕ → ℕ) (p : ℕ) where
   abbrev rest : Step
   rest = pick (bodyOk o p) (on (pick (emptyNull o p) [] (run o p (sizeAt o p))) (p + sizeAt o p)) (wrong D n lost begins p)
 
+  -- what is left of the step where the head is there, and where the body is there too
+  abbrev pub Headed : Type 0
+  Headed = step D n lost begins o p ≡ pick (headOk o p) (whole D n lost begins p (p + sizeAt o p) rest) (wrong D n lost begins p)
+
+  abbrev pub Bodied : Type 0
+  Bodied = step D n lost begins o p ≡ rest
+
   pub step-end : p ≡ D * n → moved o p true p 0 ≡ step D n lost begins o p
   unfolding step moved
   step-end h = rw (eq-eqb p (D * n) h)
@@ -48,60 +55,54 @@ module _ (D n : ℕ) (lost begins : List ℕ) (o : ℕ → ℕ) (p : ℕ) where
   unfolding moved table
   bare ends at size z = rw z
 
-  broken : (e : ℕ) (there ends : Bool) (at size : ℕ) → Whole D n lost begins p e there ends at size → there ≡ false → (s : Step)
-      → moved o p ends at size ≡ whole D n lost begins p e s
-  broken e there ends at size w t s =
-      bare ends at size (w .none)
-      ∙ sym (w .is s ∙ ap (λ (x : Bool). pick x s (pick ends (stop at) (on [] at))) t)
+  module _ (e : ℕ) (there ends : Bool) (at size : ℕ) (w : Whole D n lost begins p e there ends at size) (s : Step) where
+    broken : there ≡ false → moved o p ends at size ≡ whole D n lost begins p e s
+    broken t = bare ends at size (w .none) ∙ sym (w .is s ∙ ap (λ (x : Bool). pick x s (pick ends (stop at) (on [] at))) t)
 
-  sound : (e : ℕ) (there ends : Bool) (at size : ℕ) → Whole D n lost begins p e there ends at size → there ≡ true → (s : Step)
-      → whole D n lost begins p e s ≡ s
-  sound e there ends at size w t s = w .is s ∙ ap (λ (x : Bool). pick x s (pick ends (stop at) (on [] at))) t
+    sound : there ≡ true → whole D n lost begins p e s ≡ s
+    sound t = w .is s ∙ ap (λ (x : Bool). pick x s (pick ends (stop at) (on [] at))) t
 
-  goes-wrong : (s : ℕ) → s ≡ p / D → (ends : Bool) (at size : ℕ) → ends ≡ false → at ≡ onFrom D n lost begins (s + 1) → size ≡ 0
-      → moved o p ends at size ≡ wrong D n lost begins p
-  unfolding wrong
-  goes-wrong s e ends at size f a z =
-      bare ends at size z ∙ rw (f, a, e)
-
-  module _ (more : p ≡ D * n → ⊥) where
+  module _ (more : p ≡ D * n → ⊥) (there ends : Bool) (at size : ℕ) (w : Whole D n lost begins p (p + 4) there ends at size) where
     begun : step D n lost begins o p ≡ whole D n lost begins p (p + 4) (pick (headOk o p) (whole D n lost begins p (p + sizeAt o p) rest) (wrong D n lost begins p))
     unfolding step
     begun = rw (ne-eqb p (D * n) more)
 
-    pub step-no-head : (there ends : Bool) (at size : ℕ) → Whole D n lost begins p (p + 4) there ends at size → there ≡ false
-        → moved o p ends at size ≡ step D n lost begins o p
-    step-no-head there ends at size w t = broken (p + 4) there ends at size w t _ ∙ sym begun
+    pub no-head : there ≡ false → moved o p ends at size ≡ step D n lost begins o p
+    no-head t = broken (p + 4) there ends at size w _ t ∙ sym begun
 
-    module _ (there ends : Bool) (at size : ℕ) (head : Whole D n lost begins p (p + 4) there ends at size) (t : there ≡ true) where
-      headed : (h : Bool) → headOk o p ≡ h → step D n lost begins o p ≡ pick h (whole D n lost begins p (p + sizeAt o p) rest) (wrong D n lost begins p)
-      headed h e = begun ∙ sound (p + 4) there ends at size head t _ ∙ ap (λ (x : Bool). pick x (whole D n lost begins p (p + sizeAt o p) rest) (wrong D n lost begins p)) e
+    pub headed : there ≡ true → Headed
+    headed t = begun ∙ sound (p + 4) there ends at size w _ t
 
-      pub step-wrong-head : headOk o p ≡ false → (s : ℕ) → s ≡ p / D → (ends : Bool) (at size : ℕ) → ends ≡ false → at ≡ onFrom D n lost begins (s + 1) → size ≡ 0
-          → moved o p ends at size ≡ step D n lost begins o p
-      step-wrong-head h s e ends at size f a z = goes-wrong s e ends at size f a z ∙ sym (headed false h)
+  -- reading goes on behind slot s, where the head lies
+  module _ (s : ℕ) (place : s ≡ p / D) (ends : Bool) (at size : ℕ) (f : ends ≡ false) (a : at ≡ onFrom D n lost begins (s + 1)) (z : size ≡ 0) where
+    goes-wrong : moved o p ends at size ≡ wrong D n lost begins p
+    unfolding wrong
+    goes-wrong = bare ends at size z ∙ rw (f, a, place)
 
-      module _ (right : headOk o p ≡ true) (long : ℕ) (sized : long ≡ sizeAt o p) where
-        pub step-no-body : (there ends : Bool) (at size : ℕ) → Whole D n lost begins p (p + long) there ends at size → there ≡ false
-            → moved o p ends at size ≡ step D n lost begins o p
-        step-no-body there ends at size w t =
-            broken (p + long) there ends at size w t rest ∙ ap (λ (m : ℕ). whole D n lost begins p (p + m) rest) sized ∙ sym (headed true right)
+    pub wrong-head : Headed → headOk o p ≡ false → moved o p ends at size ≡ step D n lost begins o p
+    wrong-head h e = goes-wrong ∙ sym (rw e at h)
 
-        module _ (all ends-too : Bool) (to left : ℕ) (body : Whole D n lost begins p (p + long) all ends-too to left) (u : all ≡ true) where
-          bodied : step D n lost begins o p ≡ rest
-          bodied = headed true right ∙ ap (λ (m : ℕ). whole D n lost begins p (p + m) rest) (sym sized) ∙ sound (p + long) all ends-too to left body u rest
+    pub wrong-body : Bodied → bodyOk o p ≡ false → moved o p ends at size ≡ step D n lost begins o p
+    wrong-body b e = goes-wrong ∙ sym (rw e at b)
 
-          pub step-wrong-body : bodyOk o p ≡ false → (s : ℕ) → s ≡ p / D → (ends : Bool) (at size : ℕ) → ends ≡ false → at ≡ onFrom D n lost begins (s + 1) → size ≡ 0
-              → moved o p ends at size ≡ step D n lost begins o p
-          step-wrong-body h s e ends at size f a z = goes-wrong s e ends at size f a z ∙ sym (rw h at bodied)
+  module _ (h : Headed) (right : headOk o p ≡ true) (long : ℕ) (sized : long ≡ sizeAt o p)
+      (there ends : Bool) (at size : ℕ) (w : Whole D n lost begins p (p + long) there ends at size) where
+    to-body : whole D n lost begins p (p + long) rest ≡ step D n lost begins o p
+    to-body = ap (λ (m : ℕ). whole D n lost begins p (p + m) rest) sized ∙ sym (rw right at h)
 
-          written : (null : Bool) (m : ℕ) → on (run o p (pick null 0 m)) (p + m) ≡ on (pick null [] (run o p m)) (p + m)
-          unfolding table
-          written true m = refl
-          written false m = refl
+    pub no-body : there ≡ false → moved o p ends at size ≡ step D n lost begins o p
+    no-body t = broken (p + long) there ends at size w rest t ∙ to-body
 
-          pub step-packet : bodyOk o p ≡ true → (k : ℕ) → k ≡ keptOf (o (p + 1)) long → moved o p false (p + long) k ≡ step D n lost begins o p
-          unfolding moved emptyNull
-          step-packet h k e =
-              let r : step D n lost begins o p ≡ on (pick (eqb (o (p + 1)) 0xFF && eqb (sizeAt o p) 4) [] (run o p (sizeAt o p))) (p + sizeAt o p) = rw h at bodied in
-              rw (e, sized) (written (eqb (o (p + 1)) 0xFF && eqb (sizeAt o p) 4) (sizeAt o p)) ∙ sym r
+    pub bodied : there ≡ true → Bodied
+    bodied t = sym to-body ∙ sound (p + long) there ends at size w rest t
+
+  written : (null : Bool) (m : ℕ) → on (run o p (pick null 0 m)) (p + m) ≡ on (pick null [] (run o p m)) (p + m)
+  unfolding table
+  written true m = refl
+  written false m = refl
+
+  pub packet-kept : Bodied → bodyOk o p ≡ true → (long k : ℕ) → long ≡ sizeAt o p → k ≡ keptOf (o (p + 1)) long → moved o p false (p + long) k ≡ step D n lost begins o p
+  unfolding moved emptyNull
+  packet-kept b h long k sized e =
+      let r : step D n lost begins o p ≡ on (pick (eqb (o (p + 1)) 0xFF && eqb (sizeAt o p) 4) [] (run o p (sizeAt o p))) (p + sizeAt o p) = rw h at b in
+      rw (e, sized) (written (eqb (o (p + 1)) 0xFF && eqb (sizeAt o p) 4) (sizeAt o p)) ∙ sym r

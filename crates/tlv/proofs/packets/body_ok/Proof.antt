@@ -1,7 +1,7 @@
-use mathlib.Core.Path.{_≡_, refl, sym, ap, _∙_}
-use mathlib.Core.Bool.{Bool, true, false, not, _||_}
+use mathlib.Core.Path.{_≡_, refl, ap, _∙_}
+use mathlib.Core.Bool.{Bool, true, false}
 use mathlib.Core.List.{List}
-use Prim.Native.Nat.{ℕ, _+_, _*_, _-_, _≤_}
+use Prim.Native.Nat.{ℕ, _+_, _-_, _≤_}
 use lib.Dec.{eqb}
 use lib.ListN.{getD}
 use borrow.Author.Tests.{eq-eqb, ne-eqb}
@@ -12,8 +12,6 @@ use borrow.Author.Needs.{needs}
 use native.Mathlib.Omega.{arith}
 use Rattle.tlv.proofs.packets.body_ok.Statement.{statement}
 use Rattle.tlv.proofs.packets.body_ok.Tie as tie
-use Rattle.tlv.proofs.packets.body_ok.Reads as reads
-use Rattle.tlv.proofs.packets.body_ok.Lts as lts
 
 record Inv (lent : List ℕ) (p size body i : ℕ) : Type 0 where
   null : getD lent (p + 1) 0 ≡ 0xFF
@@ -27,29 +25,11 @@ Inv-loop lent p size i₀ body i = Inv lent p size body i
 abbrev μ-loop : tie.MeasureT-loop
 μ-loop lent p size i₀ body i = body - i
 
-add-if1 : tie.Need-add-if1 Inv-loop μ-loop
-add-if1 c = search needs
-
-shared-slice-read-if1 : tie.Need-shared-slice-read-if1 Inv-loop μ-loop
-shared-slice-read-if1 c = search needs
-
 returns : tie.Need-returns Inv-loop μ-loop
 returns c = body-other _ _ (c .if1 .taken)
 
-sub-body : tie.Need-sub-body Inv-loop μ-loop
-sub-body c = search needs
-
 loop-holds : tie.Need-loop-holds Inv-loop μ-loop
 loop-holds c = record { null = c .if1 .left; long = refl; passed = search needs; right = every-none _ }
-
-add-if2 : tie.Need-add-if2 Inv-loop μ-loop
-add-if2 c = search needs
-
-add-if2-2 : tie.Need-add-if2-2 Inv-loop μ-loop
-add-if2-2 c = search needs
-
-shared-slice-read-if2 : tie.Need-shared-slice-read-if2 Inv-loop μ-loop
-shared-slice-read-if2 c = search needs
 
 returns-2 : tie.Need-returns-2 Inv-loop μ-loop
 returns-2 c =
@@ -59,12 +39,6 @@ returns-2 c =
     let f : ℕ → Bool = λ k. eqb (getD (a .lent .now) (a .p + 4 + k) 0) 0xFF in
     body-null _ (a .p) (a .size - 4) (ap (λ (k : ℕ). k - 4) (q .1)) (l .inv .null) false
     (every-not (a .size - 4) f (l .i) (search needs) (ne-eqb _ 0xFF (c .if2 .taken)))
-
-add-i : tie.Need-add-i Inv-loop μ-loop
-add-i c = search needs
-
-loop-less : tie.Need-loop-less Inv-loop μ-loop
-loop-less c = search needs
 
 loop-again : tie.Need-loop-again Inv-loop μ-loop
 loop-again c =
@@ -84,19 +58,5 @@ returns-3 c =
 pub body-ok-spec : {M : Type 1} → statement M
 body-ok-spec =
     tie.close
-    (tie.spec
-    Inv-loop
-    μ-loop
-    add-if1
-    shared-slice-read-if1
-    returns
-    sub-body
-    loop-holds
-    add-if2
-    add-if2-2
-    shared-slice-read-if2
-    returns-2
-    add-i
-    loop-less
-    loop-again
-    returns-3)
+    (tie.spec Inv-loop μ-loop (λ c. search needs) (λ c. search needs) returns (λ c. search needs) loop-holds (λ c. search needs) (λ c. search needs)
+    (λ c. search needs) returns-2 (λ c. search needs) (λ c. search needs) loop-again returns-3)

@@ -1,10 +1,6 @@
 use Rattle.tlv.specs.HeadLaws.{type-1, type-2, type-3, type-254, type-last}
-use borrow.Author.Needs.{needs}
-use native.Mathlib.Omega.{arith}
 use Rattle.tlv.proofs.packets.type_ok.Statement.{statement}
 use Rattle.tlv.proofs.packets.type_ok.Tie as tie
-use Rattle.tlv.proofs.packets.type_ok.Reads as reads
-use Rattle.tlv.proofs.packets.type_ok.Lts as lts
 
 returns : tie.Need-returns
 returns c = type-1 _ (c .if1 .taken)

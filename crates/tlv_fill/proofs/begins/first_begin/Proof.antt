@@ -3,15 +3,9 @@ use Rattle.tlv.specs.PacketLaws.{size-least}
 use Rattle.tlv.specs.Packets.{octets}
 use borrow.Author.Needs.{needs}
 use native.Mathlib.Omega.{arith}
-use lib.ListN.{length}
-use Prim.Native.Nat.{ℕ, _+_, _-_, _<_, _≤_}
-use mathlib.Core.Path.{_≡_, refl, sym, ap, _∙_}
+use Prim.Native.Nat.{_-_}
 use Rattle.tlv_fill.proofs.begins.first_begin.Statement.{statement}
 use Rattle.tlv_fill.proofs.begins.first_begin.Tie as tie
-use Rattle.tlv_fill.proofs.begins.first_begin.Reads as reads
-use Rattle.tlv_fill.proofs.begins.first_begin.Lts as lts
-use Rattle.tlv.proofs.size_at.Reads as size-at-reads
-use Rattle.tlv_fill.proofs.octets.lacking.Reads as lacking-reads
 
 abbrev Inv-loop : tie.InvT-loop
 Inv-loop packets h target at₀ at = Ahead packets target at
@@ -21,12 +15,6 @@ abbrev μ-loop : tie.MeasureT-loop
 
 loop-holds : tie.Need-loop-holds Inv-loop μ-loop
 loop-holds c = c .before .pre .from
-
-sub-lacking : tie.Need-sub-lacking Inv-loop μ-loop
-sub-lacking c = search needs
-
-lacking-requires : tie.Need-lacking-requires Inv-loop μ-loop
-lacking-requires c κs = search needs
 
 add-result : tie.Need-add-result Inv-loop μ-loop
 add-result c = omega (arith, c .before .before .before .before .before .pre .room, c .lacking .ensures)
@@ -63,16 +51,5 @@ returns-2 c = (c .before .loop .inv, search needs)
 pub first-begin-spec : {M : Type 1} → statement M
 first-begin-spec =
     tie.close
-    (tie.spec
-    Inv-loop
-    μ-loop
-    loop-holds
-    sub-lacking
-    lacking-requires
-    add-result
-    returns
-    size-at-requires
-    add-at
-    loop-less
-    loop-again
+    (tie.spec Inv-loop μ-loop loop-holds (λ c. search needs) (λ c κs. search needs) add-result returns size-at-requires add-at loop-less loop-again
     returns-2)

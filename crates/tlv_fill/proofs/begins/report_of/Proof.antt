@@ -2,11 +2,6 @@ use borrow.Author.Tests.{lt-ltb, le-ltb}
 use borrow.Author.Needs.{needs}
 use Rattle.tlv_fill.proofs.begins.report_of.Statement.{statement}
 use Rattle.tlv_fill.proofs.begins.report_of.Tie as tie
-use Rattle.tlv_fill.proofs.begins.report_of.Reads as reads
-use Rattle.tlv_fill.proofs.begins.report_of.Lts as lts
-
-cast-result : tie.Need-cast-result
-cast-result c = search needs
 
 returns : tie.Need-returns
 returns c = rw (lt-ltb (c .before .args .rest) (c .before .args .size) (c .if1 .taken))
@@ -15,4 +10,4 @@ returns-2 : tie.Need-returns-2
 returns-2 c = rw (le-ltb (c .before .args .rest) (c .before .args .size) (c .if1 .left))
 
 pub report-of-spec : {M : Type 1} → statement M
-report-of-spec = tie.close (tie.spec cast-result returns returns-2)
+report-of-spec = tie.close (tie.spec (λ c. search needs) returns returns-2)

@@ -1,36 +1,17 @@
-use Rattle.tlv.specs.FillLaws.{length-filled}
 use Rattle.tlv.specs.CallLaws.{FillReady, fill-ready, fill-refused, fill-done}
 use Rattle.tlv.specs.Fill.{lacking, reports, takenAfter, owedAfter}
 use Rattle.plan.specs.Rates.{dataOctetsOf}
 use native.Mathlib.Omega.{arith}
 use lib.ListN.{length}
-use Prim.Native.Nat.{ℕ, _+_, _-_, _*_, _≤_, min}
-use mathlib.Core.Path.{_≡_, refl, sym, ap, _∙_}
+use Prim.Native.Nat.{ℕ, _-_}
+use mathlib.Core.Path.{sym, ap, _∙_}
 use borrow.Author.Needs.{needs}
 use Rattle.tlv_fill.proofs.calls.fill.Statement.{statement}
 use Rattle.tlv_fill.proofs.calls.fill.Tie as tie
-use Rattle.tlv_fill.proofs.calls.fill.Reads as reads
-use Rattle.tlv_fill.proofs.calls.fill.Lts as lts
-use Rattle.plan.proofs.data_octets.Reads as data-octets-reads
-use Rattle.tlv_fill.proofs.begins.beyond.Reads as beyond-reads
-use Rattle.tlv_fill.proofs.begins.mark_begins.Reads as mark-begins-reads
-use Rattle.tlv_fill.proofs.calls.fill_number.Reads as fill-number-reads
-use Rattle.tlv_fill.proofs.octets.fewer.Reads as fewer-reads
-use Rattle.tlv_fill.proofs.octets.lacking.Reads as lacking-reads
-use Rattle.tlv_fill.proofs.octets.lay.Reads as lay-reads
 
 -- what the call had, where it is not refused
 ready : (c : tie.Else1) → let a = c .before .before .before .before .before .before .before .args in FillReady (a .rate) (a .packets .now) (a .taken) (a .owed) (a .slots .now) (a .begins .now)
 ready c = let a = c .before .before .before .before .before .before .before .args in fill-ready (a .rate) (a .packets .now) (a .taken) (a .owed) (a .slots .now) (a .begins .now) (sym (c .before .fill-number .ensures) ∙ c .if1 .left)
-
-fill-number-requires : tie.Need-fill-number-requires
-fill-number-requires c κs = search needs
-
-same-length : tie.Need-same-length
-same-length c = search needs
-
-same-length-2 : tie.Need-same-length-2
-same-length-2 c = search needs
 
 returns : tie.Need-returns
 returns c =
@@ -53,9 +34,6 @@ lay-requires c κs =
     let r = ready (c .before) in
     record { within = r .within; few = r .few; room = omega (arith, r .few, r .lent .least, r .octets .low) }
 
-data-octets-requires : tie.Need-data-octets-requires
-data-octets-requires c κs = search needs
-
 mark-begins-requires : tie.Need-mark-begins-requires
 mark-begins-requires c κs =
     let r = ready (c .before .before .before .before .before .before) in
@@ -68,21 +46,6 @@ mark-begins-requires c κs =
       few = r .few;
       room = rw (e, r .lent .reports, ← r .lent .whole) (omega arith);
     }
-
-fewer-requires : tie.Need-fewer-requires
-fewer-requires c κs = search needs
-
-beyond-requires : tie.Need-beyond-requires
-beyond-requires c κs = search needs
-
-lacking-requires : tie.Need-lacking-requires
-lacking-requires c κs = search needs
-
-same-length-3 : tie.Need-same-length-3
-same-length-3 c = search needs
-
-same-length-4 : tie.Need-same-length-4
-same-length-4 c = search needs
 
 returns-2 : tie.Need-returns-2
 unfolding takenAfter owedAfter
@@ -102,19 +65,5 @@ returns-2 c =
 pub fill-spec : {M : Type 1} → statement M
 fill-spec =
     tie.close
-    (tie.spec
-    fill-number-requires
-    same-length
-    same-length-2
-    returns
-    sub-end
-    add-end
-    lay-requires
-    data-octets-requires
-    mark-begins-requires
-    fewer-requires
-    beyond-requires
-    lacking-requires
-    same-length-3
-    same-length-4
-    returns-2)
+    (tie.spec (λ c κs. search needs) (λ c. search needs) (λ c. search needs) returns sub-end add-end lay-requires (λ c κs. search needs)
+    mark-begins-requires (λ c κs. search needs) (λ c κs. search needs) (λ c κs. search needs) (λ c. search needs) (λ c. search needs) returns-2)

@@ -1,25 +1,15 @@
 use Rattle.lists.specs.ChoiceLaws.{then-first, then-next}
 use Rattle.tlv.specs.Calls.{packetNumber, fillNumber}
-use mathlib.Core.Path.{_≡_, refl, sym, ap, _∙_}
+use mathlib.Core.Path.{_≡_, sym, _∙_}
 use borrow.Author.Needs.{needs}
 use Rattle.tlv_fill.proofs.calls.fill_number.Statement.{statement}
 use Rattle.tlv_fill.proofs.calls.fill_number.Tie as tie
-use Rattle.tlv_fill.proofs.calls.fill_number.Reads as reads
-use Rattle.tlv_fill.proofs.calls.fill_number.Lts as lts
-use Rattle.tlv_fill.proofs.calls.lent_number.Reads as lent-number-reads
-use Rattle.tlv_fill.proofs.packets.packets_ok.Reads as packets-ok-reads
-
-lent-number-requires : tie.Need-lent-number-requires
-lent-number-requires c κs = search needs
 
 returns : tie.Need-returns
 unfolding fillNumber
 returns c =
     let e = c .before .lent-number .ensures in
     e ∙ sym (then-first _ _ (λ z. c .if1 .taken (e ∙ z)))
-
-packets-ok-requires : tie.Need-packets-ok-requires
-packets-ok-requires c κs = search needs
 
 returns-2 : tie.Need-returns-2
 unfolding fillNumber
@@ -36,5 +26,4 @@ returns-3 c =
     sym (then-next _ (packetNumber (c .before .before .before .before .before .before .before .args .packets .now)) (sym e ∙ c .before .before .if1 .left) ∙ h)
 
 pub fill-number-spec : {M : Type 1} → statement M
-fill-number-spec =
-    tie.close (tie.spec lent-number-requires returns packets-ok-requires returns-2 returns-3)
+fill-number-spec = tie.close (tie.spec (λ c κs. search needs) returns (λ c κs. search needs) returns-2 returns-3)

@@ -1,28 +1,15 @@
 use Rattle.tlv.specs.CallLaws.{rate-data}
-use Rattle.tlv.specs.Calls.{takenOk, fillLent}
+use Rattle.tlv.specs.Calls.{fillLent}
 use borrow.Author.Tests.{not-true, not-false}
 use native.Mathlib.Omega.{arith}
-use mathlib.Core.Bool.{true, false, _&&_}
-use mathlib.Core.Path.{_≡_, refl, sym, ap, _∙_}
+use mathlib.Core.Path.{sym, _∙_}
 use borrow.Author.Needs.{needs}
 use Rattle.tlv_fill.proofs.calls.lent_number.Statement.{statement}
 use Rattle.tlv_fill.proofs.calls.lent_number.Tie as tie
-use Rattle.tlv_fill.proofs.calls.lent_number.Reads as reads
-use Rattle.tlv_fill.proofs.calls.lent_number.Lts as lts
-use Rattle.plan.proofs.data_octets.Reads as data-octets-reads
-use Rattle.plan.proofs.known.Reads as known-reads
-use Rattle.tlv.proofs.slots_ok.Reads as slots-ok-reads
-use Rattle.tlv_fill.proofs.calls.taken_ok.Reads as taken-ok-reads
-
-known-requires : tie.Need-known-requires
-known-requires c κs = search needs
 
 returns : tie.Need-returns
 unfolding fillLent
 returns c = rw (sym (c .before .known .ensures) ∙ not-true _ (c .if1 .taken))
-
-data-octets-requires : tie.Need-data-octets-requires
-data-octets-requires c κs = search needs
 
 slots-ok-requires : tie.Need-slots-ok-requires
 slots-ok-requires c κs = omega (arith, rate-data (c .before .before .before .args .rate) (sym (c .before .before .known .ensures) ∙ not-false _ (c .before .if1 .left)) .low, c .data-octets .ensures)
@@ -30,9 +17,6 @@ slots-ok-requires c κs = omega (arith, rate-data (c .before .before .before .ar
 returns-2 : tie.Need-returns-2
 unfolding fillLent
 returns-2 c = rw (sym (c .before .before .before .before .known .ensures) ∙ not-false _ (c .before .before .before .if1 .left), ← c .before .before .data-octets .ensures, sym (c .before .slots-ok .ensures) ∙ not-true _ (c .if2 .taken))
-
-taken-ok-requires : tie.Need-taken-ok-requires
-taken-ok-requires c κs = search needs
 
 returns-3 : tie.Need-returns-3
 unfolding fillLent
@@ -45,12 +29,4 @@ returns-4 c = rw (sym (c .before .before .before .before .before .before .known 
 pub lent-number-spec : {M : Type 1} → statement M
 lent-number-spec =
     tie.close
-    (tie.spec
-    known-requires
-    returns
-    data-octets-requires
-    slots-ok-requires
-    returns-2
-    taken-ok-requires
-    returns-3
-    returns-4)
+    (tie.spec (λ c κs. search needs) returns (λ c κs. search needs) slots-ok-requires returns-2 (λ c κs. search needs) returns-3 returns-4)

@@ -2,8 +2,6 @@ use Rattle.tlv.specs.Calls.{takenOk}
 use borrow.Author.Tests.{lt-leb, le-leb, eq-eqb, ne-eqb}
 use Rattle.tlv_fill.proofs.calls.taken_ok.Statement.{statement}
 use Rattle.tlv_fill.proofs.calls.taken_ok.Tie as tie
-use Rattle.tlv_fill.proofs.calls.taken_ok.Reads as reads
-use Rattle.tlv_fill.proofs.calls.taken_ok.Lts as lts
 
 returns : tie.Need-returns
 unfolding takenOk

@@ -6,12 +6,10 @@ use Rattle.lists.specs.Count.{table}
 use borrow.Author.Needs.{needs}
 use native.Mathlib.Omega.{arith}
 use lib.ListN.{length, getD}
-use Prim.Native.Nat.{ℕ, _+_, _-_, _%_, _<_, _≤_}
-use mathlib.Core.Path.{_≡_, refl, sym, ap, _∙_}
+use Prim.Native.Nat.{_+_, _-_, _%_, _<_}
+use mathlib.Core.Path.{sym}
 use Rattle.tlv_fill.proofs.octets.put_fillers.Statement.{statement}
 use Rattle.tlv_fill.proofs.octets.put_fillers.Tie as tie
-use Rattle.tlv_fill.proofs.octets.put_fillers.Reads as reads
-use Rattle.tlv_fill.proofs.octets.put_fillers.Lts as lts
 
 abbrev Inv-loop : tie.InvT-loop
 Inv-loop from to₀ i₀ to i = Filling (table (length to₀) (λ k. getD filler ((from + k) % 4) 0)) to₀ i to
@@ -24,15 +22,6 @@ loop-holds c = filling-none _ _ (length-table (length (c .args .to .now)) (λ i.
 
 add-to : tie.Need-add-to Inv-loop μ-loop
 add-to c = omega (arith, c .before .loop .inv .same)
-
-array-read-to : tie.Need-array-read-to Inv-loop μ-loop
-array-read-to c = search needs
-
-slice-write-to : tie.Need-slice-write-to Inv-loop μ-loop
-slice-write-to c = search needs
-
-add-i : tie.Need-add-i Inv-loop μ-loop
-add-i c = search needs
 
 loop-less : tie.Need-loop-less Inv-loop μ-loop
 loop-less c = omega (arith, c .before .loop .inv .same)
@@ -55,15 +44,4 @@ returns c =
 pub put-fillers-spec : {M : Type 1} → statement M
 put-fillers-spec =
     tie.close
-    (tie.spec
-    Inv-loop
-    μ-loop
-    loop-holds
-    add-to
-    array-read-to
-    slice-write-to
-    add-i
-    loop-less
-    loop-again
-    same-length
-    returns)
+    (tie.spec Inv-loop μ-loop loop-holds add-to (λ c. search needs) (λ c. search needs) (λ c. search needs) loop-less loop-again same-length returns)

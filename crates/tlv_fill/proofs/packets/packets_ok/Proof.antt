@@ -1,7 +1,6 @@
 use mathlib.Core.Path.{_≡_, refl, sym, ap, _∙_}
-use mathlib.Core.Bool.{Bool, true, false}
 use mathlib.Core.List.{List}
-use Prim.Native.Nat.{ℕ, _+_, _-_, _<_, _≤_}
+use Prim.Native.Nat.{ℕ, _+_, _-_, _≤_}
 use lib.ListN.{length}
 use borrow.Author.Tests.{not-true, not-false}
 use Rattle.tlv.specs.Packets.{octets, sizeAt, packetsFrom, packetsOk}
@@ -11,11 +10,6 @@ use borrow.Author.Needs.{needs}
 use native.Mathlib.Omega.{arith}
 use Rattle.tlv_fill.proofs.packets.packets_ok.Statement.{statement}
 use Rattle.tlv_fill.proofs.packets.packets_ok.Tie as tie
-use Rattle.tlv_fill.proofs.packets.packets_ok.Reads as reads
-use Rattle.tlv_fill.proofs.packets.packets_ok.Lts as lts
-use Rattle.tlv.proofs.body_ok.Reads as body-ok-reads
-use Rattle.tlv.proofs.head_ok.Reads as head-ok-reads
-use Rattle.tlv.proofs.size_at.Reads as size-at-reads
 
 record Inv (packets : List ℕ) (total h : ℕ) : Type 0 where
   all : total ≡ length packets
@@ -30,9 +24,6 @@ abbrev μ-loop : tie.MeasureT-loop
 
 loop-holds : tie.Need-loop-holds Inv-loop μ-loop
 loop-holds c = record { all = refl; within = omega arith; left = refl }
-
-sub-if1 : tie.Need-sub-if1 Inv-loop μ-loop
-sub-if1 c = search needs
 
 returns : tie.Need-returns Inv-loop μ-loop
 returns c =
@@ -177,20 +168,5 @@ returns-5 c =
 pub packets-ok-spec : {M : Type 1} → statement M
 packets-ok-spec =
     tie.close
-    (tie.spec
-    Inv-loop
-    μ-loop
-    loop-holds
-    sub-if1
-    returns
-    head-ok-requires
-    returns-2
-    size-at-requires
-    sub-if3
-    returns-3
-    body-ok-requires
-    returns-4
-    add-h
-    loop-less
-    loop-again
-    returns-5)
+    (tie.spec Inv-loop μ-loop loop-holds (λ c. search needs) returns head-ok-requires returns-2 size-at-requires sub-if3 returns-3 body-ok-requires
+    returns-4 add-h loop-less loop-again returns-5)

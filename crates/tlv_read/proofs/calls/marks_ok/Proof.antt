@@ -4,16 +4,12 @@ use Rattle.lists.specs.CountLaws.{every-none, every-next}
 use Rattle.lists.specs.Count.{every}
 use borrow.Author.Tests.{le-leb, lt-leb}
 use borrow.Author.Needs.{needs}
-use native.Mathlib.Omega.{arith}
 use lib.ListN.{length, getD}
-use lib.Dec.{leb}
-use mathlib.Core.Bool.{Bool, true, false}
-use Prim.Native.Nat.{ℕ, _-_, _≤_}
-use mathlib.Core.Path.{_≡_, refl, sym, ap, _∙_}
+use mathlib.Core.Bool.{true}
+use Prim.Native.Nat.{_-_}
+use mathlib.Core.Path.{_≡_}
 use Rattle.tlv_read.proofs.calls.marks_ok.Statement.{statement}
 use Rattle.tlv_read.proofs.calls.marks_ok.Tie as tie
-use Rattle.tlv_read.proofs.calls.marks_ok.Reads as reads
-use Rattle.tlv_read.proofs.calls.marks_ok.Lts as lts
 
 abbrev Inv-loop : tie.InvT-loop
 Inv-loop lost k₀ k = every k (λ i. markOk (getD lost i 0)) ≡ true
@@ -24,20 +20,11 @@ abbrev μ-loop : tie.MeasureT-loop
 loop-holds : tie.Need-loop-holds Inv-loop μ-loop
 loop-holds c = every-none _
 
-shared-slice-read-if1 : tie.Need-shared-slice-read-if1 Inv-loop μ-loop
-shared-slice-read-if1 c = search needs
-
 returns : tie.Need-returns Inv-loop μ-loop
 returns c =
     let l = c .before .before .before .loop in
     let xs = c .before .before .before .before .args .lost .now in
     hold-not markOk xs (l .k) (search needs) (lt-leb _ 1 (c .if1 .taken))
-
-add-k : tie.Need-add-k Inv-loop μ-loop
-add-k c = search needs
-
-loop-less : tie.Need-loop-less Inv-loop μ-loop
-loop-less c = search needs
 
 loop-again : tie.Need-loop-again Inv-loop μ-loop
 loop-again c = every-next (c .before .before .before .loop .k) _ (c .before .before .before .loop .inv) (le-leb _ 1 (c .if1 .left))
@@ -51,13 +38,4 @@ returns-2 c =
 pub marks-ok-spec : {M : Type 1} → statement M
 marks-ok-spec =
     tie.close
-    (tie.spec
-    Inv-loop
-    μ-loop
-    loop-holds
-    shared-slice-read-if1
-    returns
-    add-k
-    loop-less
-    loop-again
-    returns-2)
+    (tie.spec Inv-loop μ-loop loop-holds (λ c. search needs) returns (λ c. search needs) (λ c. search needs) loop-again returns-2)

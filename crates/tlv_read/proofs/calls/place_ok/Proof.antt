@@ -1,8 +1,6 @@
 use borrow.Author.Tests.{lt-ltb, le-ltb}
 use Rattle.tlv_read.proofs.calls.place_ok.Statement.{statement}
 use Rattle.tlv_read.proofs.calls.place_ok.Tie as tie
-use Rattle.tlv_read.proofs.calls.place_ok.Reads as reads
-use Rattle.tlv_read.proofs.calls.place_ok.Lts as lts
 
 returns : tie.Need-returns
 returns c = rw (lt-ltb (c .before .args .x) (c .before .args .size) (c .if1 .taken))

@@ -4,17 +4,12 @@ use Rattle.lists.specs.CountLaws.{every-none, every-next}
 use Rattle.lists.specs.Count.{every}
 use borrow.Author.Tests.{not-true, not-false}
 use borrow.Author.Needs.{needs}
-use native.Mathlib.Omega.{arith}
 use lib.ListN.{length, getD}
-use mathlib.Core.Bool.{Bool, true, false}
-use Prim.Native.Nat.{ℕ, _-_, _≤_}
-use mathlib.Core.Path.{_≡_, refl, sym, ap, _∙_}
+use mathlib.Core.Bool.{true}
+use Prim.Native.Nat.{_-_}
+use mathlib.Core.Path.{_≡_, sym, ap, _∙_}
 use Rattle.tlv_read.proofs.calls.places_ok.Statement.{statement}
 use Rattle.tlv_read.proofs.calls.places_ok.Tie as tie
-use Rattle.tlv_read.proofs.calls.places_ok.Reads as reads
-use Rattle.tlv_read.proofs.calls.places_ok.Lts as lts
-use Rattle.lists.proofs.index.Reads as index-reads
-use Rattle.tlv_read.proofs.calls.place_ok.Reads as place-ok-reads
 
 abbrev Inv-loop : tie.InvT-loop
 Inv-loop size begins k₀ k = every k (λ i. placeOk size (getD begins i 0)) ≡ true
@@ -25,18 +20,6 @@ abbrev μ-loop : tie.MeasureT-loop
 loop-holds : tie.Need-loop-holds Inv-loop μ-loop
 loop-holds c = every-none _
 
-mul-index : tie.Need-mul-index Inv-loop μ-loop
-mul-index c = search needs
-
-shared-slice-read-index : tie.Need-shared-slice-read-index Inv-loop μ-loop
-shared-slice-read-index c = search needs
-
-index-requires : tie.Need-index-requires Inv-loop μ-loop
-index-requires c κs = search needs
-
-place-ok-requires : tie.Need-place-ok-requires Inv-loop μ-loop
-place-ok-requires c κs = search needs
-
 returns : tie.Need-returns Inv-loop μ-loop
 returns c =
     let l = c .before .before .before .before .before .loop in
@@ -44,12 +27,6 @@ returns c =
     let xs = s .begins .now in
     let e = sym (c .before .place-ok .ensures) ∙ not-true _ (c .if1 .taken) in
     (hold-not (placeOk (s .size)) xs (l .k) (search needs) (sym (ap (placeOk (s .size)) (c .before .before .index .ensures .0)) ∙ e))
-
-add-k : tie.Need-add-k Inv-loop μ-loop
-add-k c = search needs
-
-loop-less : tie.Need-loop-less Inv-loop μ-loop
-loop-less c = search needs
 
 loop-again : tie.Need-loop-again Inv-loop μ-loop
 loop-again c =
@@ -66,16 +43,5 @@ returns-2 c =
 pub places-ok-spec : {M : Type 1} → statement M
 places-ok-spec =
     tie.close
-    (tie.spec
-    Inv-loop
-    μ-loop
-    loop-holds
-    mul-index
-    shared-slice-read-index
-    index-requires
-    place-ok-requires
-    returns
-    add-k
-    loop-less
-    loop-again
-    returns-2)
+    (tie.spec Inv-loop μ-loop loop-holds (λ c. search needs) (λ c. search needs) (λ c κs. search needs) (λ c κs. search needs) returns
+    (λ c. search needs) (λ c. search needs) loop-again returns-2)

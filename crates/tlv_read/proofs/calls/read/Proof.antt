@@ -4,27 +4,15 @@ use Rattle.tlv.specs.Calls.{laid}
 use Rattle.tlv.specs.Read.{Reading}
 use native.Mathlib.Omega.{arith}
 use lib.ListN.{length}
-use mathlib.Core.Path.{_≡_, refl, sym, ap, _∙_}
+use mathlib.Core.Path.{sym, ap, _∙_}
 use borrow.Author.Needs.{needs}
 use Rattle.tlv_read.proofs.calls.read.Statement.{statement}
 use Rattle.tlv_read.proofs.calls.read.Tie as tie
-use Rattle.tlv_read.proofs.calls.read.Reads as reads
-use Rattle.tlv_read.proofs.calls.read.Lts as lts
-use Rattle.plan.proofs.data_octets.Reads as data-octets-reads
-use Rattle.tlv_read.proofs.calls.read_number.Reads as read-number-reads
-use Rattle.tlv_read.proofs.slots.start_at.Reads as start-at-reads
-use Rattle.tlv_read.proofs.steps.read_from.Reads as read-from-reads
-
-read-number-requires : tie.Need-read-number-requires
-read-number-requires c κs = search needs
 
 returns : tie.Need-returns
 returns c =
     let a = c .before .before .before .before .before .before .args in
     read-refused (a .rate) (a .slots .now) (a .begins .now) (a .lost .now) (a .first) (a .packets .now) (c .before .read-number .result) (c .before .read-number .ensures) (c .if1 .taken)
-
-data-octets-requires : tie.Need-data-octets-requires
-data-octets-requires c κs = search needs
 
 start-at-requires : tie.Need-start-at-requires
 start-at-requires c κs =
@@ -36,9 +24,6 @@ read-from-requires c κs =
     let a = c .before .before .before .before .before .before .before .before .before .args in
     read-needs (a .rate) (a .slots .now) (a .begins .now) (a .lost .now) (a .first) (a .packets .now) (sym (c .before .before .before .before .read-number .ensures) ∙ c .before .before .before .if1 .left) (c .before .before .data-octets .result) (c .before .before .data-octets .ensures) (omega arith)
     (c .before .start-at .result) (c .before .start-at .ensures)
-
-same-length : tie.Need-same-length
-same-length c = search needs
 
 returns-2 : tie.Need-returns-2
 returns-2 c =
@@ -54,11 +39,4 @@ returns-2 c =
 pub read-spec : {M : Type 1} → statement M
 read-spec =
     tie.close
-    (tie.spec
-    read-number-requires
-    returns
-    data-octets-requires
-    start-at-requires
-    read-from-requires
-    same-length
-    returns-2)
+    (tie.spec (λ c κs. search needs) returns (λ c κs. search needs) start-at-requires read-from-requires (λ c. search needs) returns-2)

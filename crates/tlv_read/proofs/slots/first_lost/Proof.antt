@@ -1,5 +1,5 @@
 -- `tlv_read::slots::first_lost`: no slot passed is met.
-use Prim.Native.Nat.{ℕ, _*_, _-_, _≤_, _<_}
+use Prim.Native.Nat.{_*_, _-_, _≤_}
 use native.Mathlib.Nat.{mul-le-mul-left}
 use native.Mathlib.Omega.{arith}
 use borrow.Author.Needs.{needs}
@@ -24,17 +24,8 @@ mul-if1 c =
 returns : tie.Need-returns Inv-loop μ-loop
 returns c = meets-none _ _ _ _ _ (c .before .before .loop .k) (c .before .before .loop .inv) (λ _. search needs)
 
-shared-slice-read-if2 : tie.Need-shared-slice-read-if2 Inv-loop μ-loop
-shared-slice-read-if2 c = search needs
-
 returns-2 : tie.Need-returns-2 Inv-loop μ-loop
 returns-2 c = meets-here _ _ _ _ _ (c .before .before .before .before .loop .k) (search needs) (search needs) (c .if2 .taken) (c .before .before .before .before .loop .inv)
-
-add-k : tie.Need-add-k Inv-loop μ-loop
-add-k c = search needs
-
-loop-less : tie.Need-loop-less Inv-loop μ-loop
-loop-less c = search needs
 
 loop-again : tie.Need-loop-again Inv-loop μ-loop
 loop-again c = unmet-next _ _ _ _ _ (c .before .before .before .before .loop .k) (c .if2 .left) (c .before .before .before .before .loop .inv)
@@ -45,4 +36,4 @@ returns-3 c = meets-none _ _ _ _ _ (c .before .loop .k) (c .before .loop .inv) (
 pub first-lost-spec : {M : Type 1} → statement M
 first-lost-spec =
     tie.close
-    (tie.spec Inv-loop μ-loop loop-holds mul-if1 returns shared-slice-read-if2 returns-2 add-k loop-less loop-again returns-3)
+    (tie.spec Inv-loop μ-loop loop-holds mul-if1 returns (λ c. search needs) returns-2 (λ c. search needs) (λ c. search needs) loop-again returns-3)

@@ -3,8 +3,6 @@ use mathlib.Core.Bool.{and-false}
 use borrow.Author.Tests.{eq-eqb, ne-eqb}
 use Rattle.tlv_read.proofs.steps.kept.Statement.{statement}
 use Rattle.tlv_read.proofs.steps.kept.Tie as tie
-use Rattle.tlv_read.proofs.steps.kept.Reads as reads
-use Rattle.tlv_read.proofs.steps.kept.Lts as lts
 
 returns : tie.Need-returns
 returns c = rw (ne-eqb (c .before .args .kind) 0xFF (c .if1 .taken))

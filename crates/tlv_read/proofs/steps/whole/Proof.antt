@@ -3,23 +3,6 @@ use mathlib.Core.Path.{refl, _∙_}
 use borrow.Author.Needs.{needs}
 use Rattle.tlv_read.proofs.steps.whole.Statement.{statement}
 use Rattle.tlv_read.proofs.steps.whole.Tie as tie
-use Rattle.tlv_read.proofs.steps.whole.Reads as reads
-use Rattle.tlv_read.proofs.steps.whole.Lts as lts
-use Rattle.tlv_read.proofs.slots.first_lost.Reads as first-lost-reads
-use Rattle.tlv_read.proofs.slots.next_begin.Reads as next-begin-reads
-use Rattle.tlv_read.proofs.steps.goes_on.Reads as goes-on-reads
-
-first-lost-requires : tie.Need-first-lost-requires
-first-lost-requires c κs = search needs
-
-add-next-begin : tie.Need-add-next-begin
-add-next-begin c = search needs
-
-next-begin-requires : tie.Need-next-begin-requires
-next-begin-requires c κs = search needs
-
-goes-on-requires : tie.Need-goes-on-requires
-goes-on-requires c κs = search needs
 
 returns : tie.Need-returns
 returns c =
@@ -27,9 +10,6 @@ returns c =
     let e = c .goes-on .ensures in
     whole-lost (s .args .size) (s .args .count) (s .args .lost .now) (s .args .begins .now) (s .args .slot) (s .args .p) (s .args .to) (s .pre .place) (c .before .before .before .first-lost .result) (c .before .before .before .first-lost .ensures)
     (c .before .before .if1 .taken) (c .goes-on .result .there) (c .goes-on .result .ends) (c .goes-on .result .at) (c .goes-on .result .size) (e .0) (e .1) (e .2 ∙ c .before .next-begin .ensures) (e .3)
-
-mul-past : tie.Need-mul-past
-mul-past c = search needs
 
 returns-2 : tie.Need-returns-2
 returns-2 c =
@@ -40,11 +20,4 @@ returns-2 c =
 pub whole-spec : {M : Type 1} → statement M
 whole-spec =
     tie.close
-    (tie.spec
-    first-lost-requires
-    add-next-begin
-    next-begin-requires
-    goes-on-requires
-    returns
-    mul-past
-    returns-2)
+    (tie.spec (λ c κs. search needs) (λ c. search needs) (λ c κs. search needs) (λ c κs. search needs) returns (λ c. search needs) returns-2)
