@@ -23,7 +23,7 @@ slotsOf rate slots = length slots / dataOctetsOf rate
 unfoldable pub slotsOk : ℕ → ℕ → ℕ → Bool
 slotsOk D T begins = ltb 0 T && (eqb (T % D) 0 && eqb begins (T / D))
 
--- not so: "Taken above the length, owed above 3, or any owed unless taken is 0 or the whole length, is 4"
+-- none of these: "Taken above the length, owed above 3, or any owed unless taken is 0 or the whole length, is 4"
 unfoldable pub takenOk : ℕ → ℕ → ℕ → Bool
 takenOk L taken owed = leb taken L && (leb owed 3 && (eqb owed 0 || (eqb taken 0 || eqb taken L)))
 
@@ -59,11 +59,11 @@ fillBegins rate packets taken owed slots begins =
     (reports (dataOctetsOf rate) (slotsOf rate slots) packets taken owed)
     begins
 
--- not so: "A report or first octet past its slot and not 65535 .. is 4"
+-- not "A report or first octet past its slot and not 65535 .. is 4"
 abbrev pub placeOk : ℕ → ℕ → Bool
 placeOk D x = ltb x D || eqb x none
 
--- not so: "or another mark, is 4"; a mark is 0 or 1
+-- "a lost mark (0 or 1) each"; "another mark, is 4"
 abbrev pub markOk : ℕ → Bool
 markOk x = leb x 1
 
