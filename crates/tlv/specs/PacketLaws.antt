@@ -8,8 +8,8 @@ use borrow.Author.Tests.{lt-ltb, le-ltb, ltb-true, eq-eqb, ne-eqb, eqb-true, leb
 use lib.Dec.{eqb, leb, ltb}
 use Rattle.lists.specs.ChoiceLaws.{and-left, and-right, same-test}
 use Rattle.lists.specs.Count.{every}
-use Rattle.lists.specs.CountLaws.{every-at, every-all, table-same}
-use Rattle.tlv.specs.Packets.{headOk, sizeAt, bodyOk, emptyNull, run, packetsFrom, headFrom}
+use Rattle.lists.specs.CountLaws.{every-at, every-all}
+use Rattle.tlv.specs.Packets.{headOk, sizeAt, bodyOk, emptyNull, packetsFrom, headFrom}
 
 pub size-least : (o : ℕ → ℕ) (p : ℕ) → 4 ≤ sizeAt o p
 unfolding sizeAt
@@ -48,9 +48,6 @@ module _ (o u : ℕ → ℕ) (p q m : ℕ) (same : (k : ℕ) → k < m → o (p 
       let a : p + 4 + k ≡ p + (4 + k) = omega arith in
       let b : q + 4 + k ≡ q + (4 + k) = omega arith in
       rw (a, b, same (4 + k) (omega arith)))))
-
-  pub run-same : sizeAt o p ≤ m → run o p (sizeAt o p) ≡ run u q (sizeAt u q)
-  run-same h = rw (← size-same) (table-same (sizeAt o p) _ _ (λ k l. same k (omega arith)))
 
 or-cases : {C : Type 0} (a b : Bool) → (a || b) ≡ true → (a ≡ true → C) → (a ≡ false → b ≡ true → C) → C
 or-cases true b h f g = f refl

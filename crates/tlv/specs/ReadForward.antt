@@ -8,7 +8,7 @@ use native.Mathlib.Decide.{decLt}
 use native.Mathlib.Omega.{arith}
 use borrow.Author.Tests.{ltb-true, ltb-false, leb-true, eqb-false, not-true}
 use lib.Dec.{eqb, leb, ltb}
-use lib.ListN.{length, getD, length-append}
+use lib.ListN.{length, getD}
 use Rattle.lists.specs.Choice.{pick}
 use Rattle.lists.specs.ChoiceLaws.{and-left, and-right}
 use Rattle.lists.specs.CountLaws.{First, first-first, length-table}
@@ -84,10 +84,6 @@ module _ (D n : ℕ) (pos : 0 < D) (lost begins : List ℕ) (inside : Inside D n
         (λ b. pick-forward (bodyOk o p) _ _ (omega arith, b, omega (arith, kept-short (emptyNull o p))) wrong-forward))
         wrong-forward))
 
-  after-fits : (r : ℕ → Reading) (p : ℕ) (s : Step) → Forward (D * n) p s → ((q : ℕ) → q ≤ D * n → length (r q .written) ≤ D * n - q) → length (after r s .written) ≤ D * n - p
-  after-fits r p (stop u) f h = omega arith
-  after-fits r p (on xs q) f h = rw length-append (omega (arith, h q (f .1)))
-
   after-enough : (r v : ℕ → Reading) (p : ℕ) (s : Step) → Forward (D * n) p s → ((q : ℕ) → p < q → q ≤ D * n → r q ≡ v q) → after r s ≡ after v s
   after-enough r v p (stop u) f h = refl
   after-enough r v p (on xs q) f h = rw (h q (f .0) (f .1))
@@ -107,12 +103,6 @@ module _ (D n : ℕ) (pos : 0 < D) (lost begins : List ℕ) (inside : Inside D n
     end-reading : (p : ℕ) → p ≡ D * n → (r : ℕ → Reading) → record { written = []; unfinished = D * n } ≡ after r (step D n lost begins o p)
     unfolding step
     end-reading p e r = rw (borrow.Author.Tests.eq-eqb p (D * n) e) (ap (λ (u : ℕ). record { written = []; unfinished = u }) (sym e))
-
-    -- what is written fits
-    pub read-fits : (f p : ℕ) → p ≤ D * n → length (read D n lost begins o f p .written) ≤ D * n - p
-    unfolding read
-    read-fits zero p h = omega arith
-    read-fits (suc f) p h = after-fits (read D n lost begins o f) p (step D n lost begins o p) (forward p h) (read-fits f)
 
     -- any number of steps that is enough
     pub read-enough : (f g p : ℕ) → p ≤ D * n → D * n ≤ p + f → D * n ≤ p + g → read D n lost begins o f p ≡ read D n lost begins o g p

@@ -28,7 +28,7 @@ module _ (D : ℕ) (pos : 0 < D) where
   pub slot-from : (i k : ℕ) → D * k ≤ i → k ≤ i / D
   slot-from i k h = le-div-iff-mul-le pos .1 (rw mul-comm at h)
 
-  pub slot-up : (p i : ℕ) → p ≤ i → p / D ≤ i / D
+  slot-up : (p i : ℕ) → p ≤ i → p / D ≤ i / D
   slot-up p i h = slot-from i (p / D) (omega (arith, slot-low p))
 
 module _ (D n : ℕ) (lost : List ℕ) where

@@ -28,11 +28,6 @@ use Rattle.tlv.specs.ReadLaws.{arrives, Told, report-told, read-honest}
 abbrev pub Agree : ℕ → ℕ → List ℕ → List ℕ → List ℕ → Type 0
 Agree D n lost xs ys = (i : ℕ) → i < D * n → lostSlot lost (i / D) ≡ false → getD xs i 0 ≡ getD ys i 0
 
--- a lost slot's octets are never looked at
-pub lost-unseen : (D n : ℕ) → 0 < D → (lost begins xs ys : List ℕ) → Agree D n lost xs ys
-    → (f p : ℕ) → read D n lost begins (octets xs) f p ≡ read D n lost begins (octets ys) f p
-lost-unseen D n pos lost begins xs ys h = read-same D n pos lost begins (octets xs) (octets ys) h
-
 module _ (D n : ℕ) (pos : 0 < D) (small : D ≤ 65535) (some : 0 < n) (packets : List ℕ) (taken owed : ℕ) (ok : packetsOk packets ≡ true) where
   reports-told : (k : ℕ) → k < n → Told D (streamBegins packets taken owed) k (getD (reports D n packets taken owed) k 0)
   reports-told k h = rw (reports-at D n packets taken owed k h) (report-told D small (streamBegins packets taken owed) k)

@@ -74,7 +74,7 @@ module _ (packets : List ℕ) (ok : packetsOk packets ≡ true) where
 
 -- the report from the next beginning, x, at or behind the slot's first octet
 module _ (D : ℕ) (b : ℕ → Bool) (k x : ℕ) (from : D * k ≤ x) (none : (i : ℕ) → D * k ≤ i → i < x → b i ≡ false) (there : b x ≡ true) where
-  pub report-inside : x < D * k + D → report D b k ≡ x - D * k
+  report-inside : x < D * k + D → report D b k ≡ x - D * k
   unfolding report
   report-inside h =
       let d : D * k + (x - D * k) ≡ x = omega arith in
@@ -82,7 +82,7 @@ module _ (D : ℕ) (b : ℕ → Bool) (k x : ℕ) (from : D * k ≤ x) (none : (
       = first-is D (λ i. b (D * k + i)) (x - D * k) (record { within = omega arith; before = λ i l. none (D * k + i) (omega arith) (omega arith); there = λ _. rw d there }) in
       rw (e, lt-ltb (x - D * k) D (omega arith))
 
-  pub report-behind : D * k + D ≤ x → report D b k ≡ 65535
+  report-behind : D * k + D ≤ x → report D b k ≡ 65535
   unfolding report
   report-behind h =
       let e : first D (λ i. b (D * k + i)) ≡ D
@@ -91,9 +91,6 @@ module _ (D : ℕ) (b : ℕ → Bool) (k x : ℕ) (from : D * k ≤ x) (none : (
 
 -- the report of slot k from the first beginning at or behind its first octet
 module _ (D k : ℕ) (packets : List ℕ) (taken owed r : ℕ) (step : 0 < k → owed ≤ D * k) (a : Ahead packets (taken + (D * k - owed)) r) (reached : taken + (D * k - owed) ≤ r) where
-  from-zero : D * k - owed ≤ r - taken
-  from-zero = omega arith
-
   stream-none : D * k ≤ owed + (r - taken) → (i : ℕ) → D * k ≤ i → i < owed + (r - taken) → streamBegins packets taken owed i ≡ false
   unfolding streamBegins
   stream-none f i x y = go (decLt i owed)
@@ -108,11 +105,11 @@ module _ (D k : ℕ) (packets : List ℕ) (taken owed r : ℕ) (step : 0 < k →
       let e : taken + (owed + (r - taken) - owed) ≡ r = omega arith in
       rw (le-ltb (owed + (r - taken)) owed (omega arith), e) (a .begins)
 
-  pub report-here : owed + (r - taken) < D * k + D → owed + (r - taken) - D * k ≡ report D (streamBegins packets taken owed) k
+  report-here : owed + (r - taken) < D * k + D → owed + (r - taken) - D * k ≡ report D (streamBegins packets taken owed) k
   report-here h =
       sym (report-inside D (streamBegins packets taken owed) k (owed + (r - taken)) (omega arith) (stream-none (omega arith)) stream-there h)
 
-  pub report-none : D * k + D ≤ owed + (r - taken) → 65535 ≡ report D (streamBegins packets taken owed) k
+  report-none : D * k + D ≤ owed + (r - taken) → 65535 ≡ report D (streamBegins packets taken owed) k
   report-none h =
       sym (report-behind D (streamBegins packets taken owed) k (owed + (r - taken)) (omega arith) (stream-none (omega arith)) stream-there h)
 

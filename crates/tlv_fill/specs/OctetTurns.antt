@@ -17,7 +17,7 @@ use Rattle.tlv.specs.Honest.{sent-within}
 use Rattle.tlv.specs.SentLaws.{part-run}
 use Rattle.tlv_fill.specs.Needs.{LayNeeds}
 
-pub filled-pieces : (packets : List ℕ) (taken owed m r : ℕ) → taken + m ≤ length packets → (0 < r → taken + m ≡ length packets)
+filled-pieces : (packets : List ℕ) (taken owed m r : ℕ) → taken + m ≤ length packets → (0 < r → taken + m ≡ length packets)
     → filled packets taken owed (owed + (m + r)) ≡ run (octets filler) (4 - owed) owed ++ (part taken (taken + m) packets ++ table r (λ i. getD filler (i % 4) 0))
 unfolding filled streamAt
 filled-pieces packets taken owed m r within all =

@@ -10,7 +10,7 @@ use Rattle.tlv.specs.PacketLaws.{size-least}
 
 module _ (o : ℕ → ℕ) (L : ℕ) where
   -- one packet
-  unfoldable pub acceptStep : ℕ → Bool → Bool
+  unfoldable acceptStep : ℕ → Bool → Bool
   acceptStep h rest = leb (h + 4) L && (headOk o h && (leb (h + sizeAt o h) L && (bodyOk o h && rest)))
 
   accept-same : (h : ℕ) (s t : Bool) → (h + sizeAt o h ≤ L → s ≡ t) → acceptStep h s ≡ acceptStep h t
@@ -22,7 +22,7 @@ module _ (o : ℕ → ℕ) (L : ℕ) where
       go false e = refl
 
   -- any number of packets that is enough
-  pub accept-enough : (f g h : ℕ) → h ≤ L → L ≤ h + f → L ≤ h + g → packetsFrom o L f h ≡ packetsFrom o L g h
+  accept-enough : (f g h : ℕ) → h ≤ L → L ≤ h + f → L ≤ h + g → packetsFrom o L f h ≡ packetsFrom o L g h
   unfolding packetsFrom acceptStep
   accept-enough zero zero h l a b = refl
   accept-enough zero (suc g) h l a b = let e : h ≡ L = omega arith in rw (eq-eqb h L e)
@@ -33,7 +33,7 @@ module _ (o : ℕ → ℕ) (L : ℕ) where
       (accept-same h _ _ (λ m. accept-enough f g (h + sizeAt o h) m (omega arith) (omega arith)))
 
   -- as a loop has it
-  pub accept-loop : (h : ℕ) → h < L → packetsFrom o L L h ≡ acceptStep h (packetsFrom o L L (h + sizeAt o h))
+  accept-loop : (h : ℕ) → h < L → packetsFrom o L L h ≡ acceptStep h (packetsFrom o L L (h + sizeAt o h))
   unfolding packetsFrom acceptStep
   accept-loop h l =
       accept-enough L (suc L) h (omega arith) (omega arith) (omega arith)

@@ -3,7 +3,7 @@ use mathlib.Core.Path.{_≡_, sym}
 use mathlib.Core.Bool.{Bool, false, not, _&&_, and-false}
 use mathlib.Core.List.{List}
 use Prim.Native.Nat.{ℕ, _+_, _-_, _*_, _<_, _≤_}
-use native.Mathlib.Nat.{mul-le-mul-left, mul-le-mul-right}
+use native.Mathlib.Nat.{mul-le-mul-left}
 use native.Mathlib.Decide.{decLt}
 use native.Mathlib.Omega.{arith}
 use borrow.Author.Tests.{lt-ltb, le-ltb, le-leb, lt-leb, eq-eqb, ne-eqb}
@@ -92,6 +92,3 @@ module _ (D n : ℕ) (lost begins : List ℕ) (slot : ℕ) where
   on-none k l u =
       let e = first-is n reportsAt n (record { within = omega arith; before = λ i m. u .none i (omega arith); there = λ m. absurd (omega arith) }) in
       rw (e, le-ltb n n (omega arith))
-
-pub few : (D n m : ℕ) → 0 < D → D * n ≤ m → n ≤ m
-few D n m pos h = let x : 1 * n ≤ D * n = mul-le-mul-right n pos in omega arith

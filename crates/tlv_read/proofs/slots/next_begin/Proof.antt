@@ -1,11 +1,11 @@
 -- `tlv_read::slots::next_begin`: no slot passed is sound with a report.
-use Prim.Native.Nat.{ℕ, _+_, _*_, _-_, _≤_}
+use Prim.Native.Nat.{ℕ, _+_, _*_, _-_, _<_, _≤_}
 use mathlib.Core.Path.{ap, _∙_}
 use mathlib.Core.Logic.{⊎-elim}
-use native.Mathlib.Nat.{mul-le-mul-left}
+use native.Mathlib.Nat.{mul-le-mul-left, mul-le-mul-right}
 use native.Mathlib.Omega.{arith}
 use borrow.Author.Needs.{needs}
-use Rattle.tlv_read.specs.SlotTurns.{Silent, silent-start, silent-lost, silent-none, on-here, on-none, few}
+use Rattle.tlv_read.specs.SlotTurns.{Silent, silent-start, silent-lost, silent-none, on-here, on-none}
 use Rattle.tlv_read.proofs.slots.next_begin.Statement.{statement}
 use Rattle.tlv_read.proofs.slots.next_begin.Tie as tie
 
@@ -18,21 +18,28 @@ abbrev μ-loop : tie.MeasureT-loop
 loop-holds : tie.Need-loop-holds Inv-loop μ-loop
 loop-holds c = silent-start _ _ _ _ _
 
+-- slot k begins inside the slots, of which there are few enough
+record Within (D n k : ℕ) : Type 0 where
+  begins : D * k ≤ D * n
+  few : n < 9223372036854775808
+
+within : (c : tie.In-loop Inv-loop μ-loop) → let a = c .before .before .before .before .args in Within (a .size) (a .count) (c .before .loop .k)
+within c =
+    let s = c .before .before .before .before in
+    let m : 1 * s .args .count ≤ s .args .size * s .args .count = mul-le-mul-right (s .args .count) (s .pre .marked .some) in
+    record { begins = mul-le-mul-left (s .args .size) (search needs); few = omega (arith, s .pre .marked .room) }
+
 mul-if2 : tie.Need-mul-if2 Inv-loop μ-loop
-mul-if2 c = omega (arith, few (c .before .before .before .before .before .before .args .size) (c .before .before .before .before .before .before .args .count) 9223372036854775807 (c .before .before .before .before .before .before .pre .marked .some) (omega arith))
+mul-if2 c = omega (arith, within (c .before .before) .few)
 
 mul-result : tie.Need-mul-result Inv-loop μ-loop
-mul-result c =
-    let k : c .before .before .before .before .before .before .before .before .args .size * c .before .before .before .before .before .loop .k ≤ c .before .before .before .before .before .before .before .before .args .size * c .before .before .before .before .before .before .before .before .args .count = mul-le-mul-left _ (search needs) in
-    omega arith
+mul-result c = omega (arith, within (c .before .before .before .before) .begins)
 
 mul-index : tie.Need-mul-index Inv-loop μ-loop
-mul-index c = omega (arith, few (c .before .before .before .before .before .before .before .before .args .size) (c .before .before .before .before .before .before .before .before .args .count) 9223372036854775807 (c .before .before .before .before .before .before .before .before .pre .marked .some) (omega arith))
+mul-index c = omega (arith, within (c .before .before .before .before) .few)
 
 add-result : tie.Need-add-result Inv-loop μ-loop
-add-result c =
-    let k : c .before .before .before .before .before .before .before .before .before .before .args .size * c .before .before .before .before .before .before .before .loop .k ≤ c .before .before .before .before .before .before .before .before .before .before .args .size * c .before .before .before .before .before .before .before .before .before .before .args .count = mul-le-mul-left _ (search needs) in
-    omega (arith, c .index .ensures)
+add-result c = omega (arith, within (c .before .before .before .before .before .before) .begins, c .index .ensures)
 
 returns : tie.Need-returns Inv-loop μ-loop
 returns c =
