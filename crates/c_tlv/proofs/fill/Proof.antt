@@ -1,8 +1,9 @@
-use Rattle.c_tlv.specs.CallLaws.{fill-refused, fill-good, fill-given}
-use Rattle.c_boundary.specs.Calls.{nextNumber}
+-- `c_tlv::fill`: the number of what is lent and of `next`, then the entry, for the rate as it was handed over.
 use mathlib.Core.Path.{sym, ap, _∙_}
-use Rattle.lists.specs.Choice.{andThen}
 use borrow.Author.Needs.{needs}
+use Rattle.lists.specs.Choice.{andThen}
+use Rattle.c_boundary.specs.Calls.{nextNumber}
+use Rattle.c_tlv.specs.CallLaws.{fill-refused, fill-good, fill-given}
 use Rattle.c_tlv.proofs.fill.Statement.{statement}
 use Rattle.c_tlv.proofs.fill.Tie as tie
 

@@ -1,9 +1,10 @@
+-- `c_tlv::read`: the number of what is lent and of `next`, then the entry, for the rate as it was handed over.
+use mathlib.Core.Path.{sym, ap, _∙_}
+use borrow.Author.Needs.{needs}
+use Rattle.lists.specs.Choice.{andThen}
+use Rattle.c_boundary.specs.Calls.{nextNumber}
 use Rattle.c_tlv.specs.CallLaws.{read-refused, read-good, read-given}
 use Rattle.c_tlv.specs.Calls.{readCall}
-use Rattle.c_boundary.specs.Calls.{nextNumber}
-use mathlib.Core.Path.{sym, ap, _∙_}
-use Rattle.lists.specs.Choice.{andThen}
-use borrow.Author.Needs.{needs}
 use Rattle.c_tlv.proofs.read.Statement.{statement}
 use Rattle.c_tlv.proofs.read.Tie as tie
 

@@ -1,15 +1,16 @@
+-- `tlv::packets::body_ok`: all octets passed are 0xFF.
 use mathlib.Core.Path.{_≡_, refl, ap, _∙_}
 use mathlib.Core.Bool.{Bool, true, false}
 use mathlib.Core.List.{List}
 use Prim.Native.Nat.{ℕ, _+_, _-_, _≤_}
+use native.Mathlib.Omega.{arith}
+use borrow.Author.Tests.{eq-eqb, ne-eqb}
+use borrow.Author.Needs.{needs}
 use lib.Dec.{eqb}
 use lib.ListN.{getD}
-use borrow.Author.Tests.{eq-eqb, ne-eqb}
 use Rattle.lists.specs.Count.{every}
 use Rattle.lists.specs.CountLaws.{every-none, every-next, every-not}
 use Rattle.tlv.specs.HeadLaws.{body-other, body-null}
-use borrow.Author.Needs.{needs}
-use native.Mathlib.Omega.{arith}
 use Rattle.tlv.proofs.packets.body_ok.Statement.{statement}
 use Rattle.tlv.proofs.packets.body_ok.Tie as tie
 

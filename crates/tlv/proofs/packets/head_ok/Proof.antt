@@ -1,6 +1,7 @@
+-- `tlv::packets::head_ok`: the first octet, then the type.
+use borrow.Author.Needs.{needs}
+use borrow.Author.Needs.{needs}
 use Rattle.tlv.specs.HeadLaws.{head-not, head-type}
-use borrow.Author.Needs.{needs}
-use borrow.Author.Needs.{needs}
 use Rattle.tlv.proofs.packets.head_ok.Statement.{statement}
 use Rattle.tlv.proofs.packets.head_ok.Tie as tie
 

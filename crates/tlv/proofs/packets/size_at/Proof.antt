@@ -1,7 +1,8 @@
-use Rattle.tlv.specs.HeadLaws.{size-is}
-use borrow.Author.Needs.{needs}
+-- `tlv::packets::size_at`: two octets as one number.
 use native.Mathlib.Omega.{arith}
 use borrow.Author.Needs.{needs}
+use borrow.Author.Needs.{needs}
+use Rattle.tlv.specs.HeadLaws.{size-is}
 use Rattle.tlv.proofs.packets.size_at.Statement.{statement}
 use Rattle.tlv.proofs.packets.size_at.Tie as tie
 

@@ -1,3 +1,4 @@
+-- `tlv::packets::type_ok`: each way out is a type, or none of the five.
 use Rattle.tlv.specs.HeadLaws.{type-1, type-2, type-3, type-254, type-last}
 use Rattle.tlv.proofs.packets.type_ok.Statement.{statement}
 use Rattle.tlv.proofs.packets.type_ok.Tie as tie

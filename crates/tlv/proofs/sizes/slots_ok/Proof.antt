@@ -1,3 +1,4 @@
+-- `tlv::sizes::slots_ok`: each way out rewrites with the tests on the way to it.
 use borrow.Author.Needs.{needs}
 use Rattle.tlv.specs.CallLaws.{slots-none, slots-part, slots-whole}
 use Rattle.tlv.proofs.sizes.slots_ok.Statement.{statement}

@@ -1,9 +1,10 @@
-use Rattle.tlv_fill.specs.BeginTurns.{Ahead, within-packet, ahead-packet, ahead-filler}
+-- `tlv_fill::begins::first_begin`: nothing begins between the target and the place reached.
+use Prim.Native.Nat.{_-_}
+use native.Mathlib.Omega.{arith}
+use borrow.Author.Needs.{needs}
 use Rattle.tlv.specs.PacketLaws.{size-least}
 use Rattle.tlv.specs.Packets.{octets}
-use borrow.Author.Needs.{needs}
-use native.Mathlib.Omega.{arith}
-use Prim.Native.Nat.{_-_}
+use Rattle.tlv_fill.specs.BeginTurns.{Ahead, within-packet, ahead-packet, ahead-filler}
 use Rattle.tlv_fill.proofs.begins.first_begin.Statement.{statement}
 use Rattle.tlv_fill.proofs.begins.first_begin.Tie as tie
 

@@ -1,3 +1,4 @@
+-- `tlv_fill::begins::report_of`: each way out rewrites with the test.
 use borrow.Author.Tests.{lt-ltb, le-ltb}
 use borrow.Author.Needs.{needs}
 use Rattle.tlv_fill.proofs.begins.report_of.Statement.{statement}

@@ -1,11 +1,12 @@
+-- `tlv_fill::calls::fill`: a refusal leaves all, an accepted call the slots, their reports and both numbers.
+use mathlib.Core.Path.{sym, ap, _∙_}
+use Prim.Native.Nat.{ℕ, _-_}
+use native.Mathlib.Omega.{arith}
+use borrow.Author.Needs.{needs}
+use lib.ListN.{length}
+use Rattle.plan.specs.Rates.{dataOctetsOf}
 use Rattle.tlv.specs.CallLaws.{FillReady, fill-ready, fill-refused, fill-done}
 use Rattle.tlv.specs.Fill.{lacking, reports, takenAfter, owedAfter}
-use Rattle.plan.specs.Rates.{dataOctetsOf}
-use native.Mathlib.Omega.{arith}
-use lib.ListN.{length}
-use Prim.Native.Nat.{ℕ, _-_}
-use mathlib.Core.Path.{sym, ap, _∙_}
-use borrow.Author.Needs.{needs}
 use Rattle.tlv_fill.proofs.calls.fill.Statement.{statement}
 use Rattle.tlv_fill.proofs.calls.fill.Tie as tie
 

@@ -1,7 +1,8 @@
-use Rattle.lists.specs.ChoiceLaws.{then-first, then-next}
-use Rattle.tlv.specs.Calls.{packetNumber, fillNumber}
+-- `tlv_fill::calls::fill_number`: what is lent, then the packets.
 use mathlib.Core.Path.{_≡_, sym, _∙_}
 use borrow.Author.Needs.{needs}
+use Rattle.lists.specs.ChoiceLaws.{then-first, then-next}
+use Rattle.tlv.specs.Calls.{packetNumber, fillNumber}
 use Rattle.tlv_fill.proofs.calls.fill_number.Statement.{statement}
 use Rattle.tlv_fill.proofs.calls.fill_number.Tie as tie
 

@@ -1,10 +1,11 @@
-use Rattle.tlv_fill.specs.OctetTurns.{laid-pieces}
-use Rattle.lists.specs.PartLaws.{length-part}
-use native.Mathlib.Omega.{arith}
-use lib.ListN.{length}
-use Prim.Native.Nat.{_+_, _-_}
+-- `tlv_fill::octets::lay`: three pieces are put one behind the other.
 use mathlib.Core.Path.{_∙_}
+use Prim.Native.Nat.{_+_, _-_}
+use native.Mathlib.Omega.{arith}
 use borrow.Author.Needs.{needs}
+use lib.ListN.{length}
+use Rattle.lists.specs.PartLaws.{length-part}
+use Rattle.tlv_fill.specs.OctetTurns.{laid-pieces}
 use Rattle.tlv_fill.proofs.octets.lay.Statement.{statement}
 use Rattle.tlv_fill.proofs.octets.lay.Tie as tie
 

@@ -1,13 +1,14 @@
-use Rattle.tlv.specs.Fill.{filler}
+-- `tlv_fill::octets::put_fillers`: the octets passed are those of fillers.
+use mathlib.Core.Path.{sym}
+use Prim.Native.Nat.{_+_, _-_, _%_, _<_}
+use native.Mathlib.Omega.{arith}
+use borrow.Author.Needs.{needs}
+use lib.ListN.{length, getD}
 use Rattle.lists.specs.FillingLaws.{filling-none, filling-more, filling-all}
 use Rattle.lists.specs.Filling.{Filling}
 use Rattle.lists.specs.CountLaws.{length-table, getD-table}
 use Rattle.lists.specs.Count.{table}
-use borrow.Author.Needs.{needs}
-use native.Mathlib.Omega.{arith}
-use lib.ListN.{length, getD}
-use Prim.Native.Nat.{_+_, _-_, _%_, _<_}
-use mathlib.Core.Path.{sym}
+use Rattle.tlv.specs.Fill.{filler}
 use Rattle.tlv_fill.proofs.octets.put_fillers.Statement.{statement}
 use Rattle.tlv_fill.proofs.octets.put_fillers.Tie as tie
 

@@ -70,7 +70,7 @@ loop-again c =
     let l = c .before .before .before .before .before .before .before .before .loop in
     let z = c .before .before .before .size-at .ensures .0 in
     let more = accept-more _ _ (l .h) (search needs) (head-fits (c .before .before .before .before .before .before)) (sym (c .before .before .before .before .before .head-ok .ensures) ∙ not-false _ (c .before .before .before .before .if2 .left))
-        (fits (c .before .before)) (sym (c .before .body-ok .ensures) ∙ not-false _ (c .if4 .left)) in
+    (fits (c .before .before)) (sym (c .before .body-ok .ensures) ∙ not-false _ (c .if4 .left)) in
     record {
       all = refl;
       within = omega (arith, fits (c .before .before));

@@ -1,13 +1,14 @@
-use Rattle.tlv.specs.Calls.{markOk}
-use Rattle.tlv.specs.CallLaws.{hold-not, hold-all}
-use Rattle.lists.specs.CountLaws.{every-none, every-next}
-use Rattle.lists.specs.Count.{every}
+-- `tlv_read::calls::marks_ok`: all marks passed are 0 or 1.
+use mathlib.Core.Bool.{true}
+use mathlib.Core.Path.{_≡_}
+use Prim.Native.Nat.{_-_}
 use borrow.Author.Tests.{le-leb, lt-leb}
 use borrow.Author.Needs.{needs}
 use lib.ListN.{length, getD}
-use mathlib.Core.Bool.{true}
-use Prim.Native.Nat.{_-_}
-use mathlib.Core.Path.{_≡_}
+use Rattle.lists.specs.CountLaws.{every-none, every-next}
+use Rattle.lists.specs.Count.{every}
+use Rattle.tlv.specs.Calls.{markOk}
+use Rattle.tlv.specs.CallLaws.{hold-not, hold-all}
 use Rattle.tlv_read.proofs.calls.marks_ok.Statement.{statement}
 use Rattle.tlv_read.proofs.calls.marks_ok.Tie as tie
 

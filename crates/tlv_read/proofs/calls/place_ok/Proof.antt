@@ -1,3 +1,4 @@
+-- `tlv_read::calls::place_ok`: each way out rewrites with the test.
 use borrow.Author.Tests.{lt-ltb, le-ltb}
 use Rattle.tlv_read.proofs.calls.place_ok.Statement.{statement}
 use Rattle.tlv_read.proofs.calls.place_ok.Tie as tie

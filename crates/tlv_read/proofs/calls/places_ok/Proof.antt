@@ -1,13 +1,14 @@
-use Rattle.tlv.specs.Calls.{placeOk}
-use Rattle.tlv.specs.CallLaws.{hold-not, hold-all}
-use Rattle.lists.specs.CountLaws.{every-none, every-next}
-use Rattle.lists.specs.Count.{every}
+-- `tlv_read::calls::places_ok`: all reports passed are octets of their slots, or none.
+use mathlib.Core.Bool.{true}
+use mathlib.Core.Path.{_≡_, sym, ap, _∙_}
+use Prim.Native.Nat.{_-_}
 use borrow.Author.Tests.{not-true, not-false}
 use borrow.Author.Needs.{needs}
 use lib.ListN.{length, getD}
-use mathlib.Core.Bool.{true}
-use Prim.Native.Nat.{_-_}
-use mathlib.Core.Path.{_≡_, sym, ap, _∙_}
+use Rattle.lists.specs.CountLaws.{every-none, every-next}
+use Rattle.lists.specs.Count.{every}
+use Rattle.tlv.specs.Calls.{placeOk}
+use Rattle.tlv.specs.CallLaws.{hold-not, hold-all}
 use Rattle.tlv_read.proofs.calls.places_ok.Statement.{statement}
 use Rattle.tlv_read.proofs.calls.places_ok.Tie as tie
 

@@ -1,11 +1,12 @@
-use Rattle.tlv_read.specs.CallTurns.{reported, read-needs, reading-is}
+-- `tlv_read::calls::read`: a refusal leaves all, an accepted call what the reading from its start gives.
+use mathlib.Core.Path.{sym, ap, _∙_}
+use native.Mathlib.Omega.{arith}
+use borrow.Author.Needs.{needs}
+use lib.ListN.{length}
 use Rattle.tlv.specs.CallLaws.{read-refused, read-done}
 use Rattle.tlv.specs.Calls.{laid}
 use Rattle.tlv.specs.Read.{Reading}
-use native.Mathlib.Omega.{arith}
-use lib.ListN.{length}
-use mathlib.Core.Path.{sym, ap, _∙_}
-use borrow.Author.Needs.{needs}
+use Rattle.tlv_read.specs.CallTurns.{reported, read-needs, reading-is}
 use Rattle.tlv_read.proofs.calls.read.Statement.{statement}
 use Rattle.tlv_read.proofs.calls.read.Tie as tie
 

@@ -1,7 +1,8 @@
-use Rattle.tlv.specs.Read.{start}
-use borrow.Author.Tests.{eq-eqb, ne-eqb}
+-- `tlv_read::slots::start_at`: each way out rewrites with the test.
 use mathlib.Core.Path.{sym, _∙_}
+use borrow.Author.Tests.{eq-eqb, ne-eqb}
 use borrow.Author.Needs.{needs}
+use Rattle.tlv.specs.Read.{start}
 use Rattle.tlv_read.proofs.slots.start_at.Statement.{statement}
 use Rattle.tlv_read.proofs.slots.start_at.Tie as tie
 

@@ -1,6 +1,7 @@
-use lib.Dec.{eqb}
+-- `tlv_read::steps::kept`: each way out rewrites with the tests on the way to it.
 use mathlib.Core.Bool.{and-false}
 use borrow.Author.Tests.{eq-eqb, ne-eqb}
+use lib.Dec.{eqb}
 use Rattle.tlv_read.proofs.steps.kept.Statement.{statement}
 use Rattle.tlv_read.proofs.steps.kept.Tie as tie
 

@@ -1,6 +1,7 @@
-use Rattle.tlv_read.specs.StepLaws.{whole-lost, whole-sound}
+-- `tlv_read::steps::whole`: a lost slot that is met, the end of the slots, or neither.
 use mathlib.Core.Path.{refl, _∙_}
 use borrow.Author.Needs.{needs}
+use Rattle.tlv_read.specs.StepLaws.{whole-lost, whole-sound}
 use Rattle.tlv_read.proofs.steps.whole.Statement.{statement}
 use Rattle.tlv_read.proofs.steps.whole.Tie as tie
 
