@@ -7,6 +7,12 @@ pub use packets::head_ok;
 pub use packets::size_at;
 pub use sizes::slots_ok;
 
+// The type of null packets, and every octet of their bodies.
+pub const NULL: u8 = 0xFF;
+
+// Stands for no octet: in a report, and as the first octet to read.
+pub const NONE: u16 = 65535;
+
 // What filling answers: octets taken in all, and octets of a cut filler that are owed.
 pub struct FillAnswer {
     pub number: u8,

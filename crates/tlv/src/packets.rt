@@ -3,12 +3,10 @@ ghost use mathlib.Core.Path.{_≡_};
 ghost use Prim.Native.Nat.{_+_, _≤_, _<_};
 ghost use lib.ListN.{length};
 ghost use Rattle.tlv.specs.Packets.{octets, typeOk, headOk, sizeAt, bodyOk};
+use crate::NULL;
 
 // The octet that a head begins with.
 const MARK: u8 = 0x7F;
-
-// The type of null packets, and every octet of their bodies.
-const NULL: u8 = 0xFF;
 
 // Whether a type is known.
 fn type_ok(kind: u8) -> bool

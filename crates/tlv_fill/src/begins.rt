@@ -34,7 +34,7 @@ pub fn beyond(a: usize, b: usize) -> usize
     a - b
 }
 
-// A report: the octet in the slot, or 65535.
+// A report: the octet in the slot, or none.
 fn report_of(rest: usize, size: usize) -> u16
     requires { ⌜ size ≤ 65535 ⌝ }
     ensures { λ r. ⌜ r ≡ pick (ltb rest size) rest 65535 ⌝ }
@@ -42,7 +42,7 @@ fn report_of(rest: usize, size: usize) -> u16
     if rest < size {
         return rest as u16;
     }
-    65535
+    tlv::NONE
 }
 
 // The reports of all slots.

@@ -13,7 +13,7 @@ fn place_ok(size: usize, x: usize) -> bool
     if x < size {
         return true;
     }
-    x == 65535
+    x == lists::index(tlv::NONE)
 }
 
 // Whether each report is an octet of its slot, or none.

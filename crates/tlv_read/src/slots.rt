@@ -3,9 +3,6 @@ ghost use mathlib.Core.Path.{_≡_};
 ghost use Rattle.tlv.specs.Read.{lostFrom, onFrom, start};
 ghost use Rattle.tlv_read.specs.Needs.{Marked, Reported};
 
-// A report of no beginning, and the first octet to read where that is the first reported beginning.
-const NONE: u16 = 65535;
-
 // The first lost slot from `slot` on that begins before octet `to`, `count` where there is none.
 pub fn first_lost(size: usize, count: usize, lost: &[u8], slot: usize, to: usize) -> usize
     requires { ⌜ Marked size count (now lost) ⌝ }
@@ -32,7 +29,7 @@ pub fn next_begin(size: usize, count: usize, lost: &[u8], begins: &[u16], slot: 
     let mut k = slot;
     while k < count {
         if lost[k] != 1 {
-            if begins[k] != NONE {
+            if begins[k] != tlv::NONE {
                 return size * k + lists::index(begins[k]);
             }
         }
@@ -46,7 +43,7 @@ pub fn start_at(size: usize, count: usize, lost: &[u8], begins: &[u16], first: u
     requires { ⌜ Reported size count (now lost) (now begins) ⌝ }
     ensures { λ r. ⌜ r ≡ start size count (now (lost .entry)) (now (begins .entry)) first ⌝ }
 {
-    if first == lists::index(NONE) {
+    if first == lists::index(tlv::NONE) {
         return next_begin(size, count, lost, begins, 0);
     }
     first

@@ -9,9 +9,6 @@ use crate::slots::first_lost;
 use crate::slots::next_begin;
 use tlv::ReadAnswer;
 
-// The type of a null packet.
-const NULL: u8 = 0xFF;
-
 // What a step does: stop at `at`; or write `size` octets, and go on there. Where octets were wanted and are `there`, it is
 // not decided yet.
 pub struct Move {
@@ -62,7 +59,7 @@ fn whole(
 fn kept(kind: u8, size: usize) -> usize
     ensures { λ r. ⌜ r ≡ keptOf kind size ⌝ }
 {
-    if kind != NULL {
+    if kind != tlv::NULL {
         return size;
     }
     if size != 4 {
