@@ -1,6 +1,6 @@
 -- Proofs of the statements on TLV packets (document 02, N2).
 use mathlib.Core.Path.{_≡_, refl, sym, ap, ap₂, _∙_}
-use mathlib.Core.Bool.{Bool, true, false, _&&_, _||_}
+use mathlib.Core.Bool.{Bool, true, false, _&&_}
 use mathlib.Core.List.{List, _++_}
 use Prim.Native.Nat.{ℕ, _+_, _-_, _*_, _/_, _<_}
 use native.Mathlib.Nat.{mul-add, mul-div-cancel-left}
@@ -9,6 +9,7 @@ use native.Mathlib.Omega.{arith}
 use borrow.Author.Tests.{eq-eqb}
 use lib.Dec.{eqb, ltb}
 use lib.ListN.{length, getD, length-append}
+use Rattle.lists.specs.ChoiceLaws.{or-true}
 use Rattle.lists.specs.Choice.{pick}
 use Rattle.lists.specs.Count.{first, table}
 use Rattle.refusal.specs.Numbers.{PLAN, LENGTH, PACKET}
@@ -85,7 +86,7 @@ module _ (rate : ℕ) (packets : List ℕ) (taken owed : ℕ) (slots begins : Li
   unfolding fillAnswer
   numbers-filled = rw (eq-eqb _ 0 h)
 
--- (b) two calls
+-- two calls
 module _ (rate : ℕ) (packets : List ℕ) (taken owed : ℕ) (slots begins further told : List ℕ)
     (h : fillNumber rate packets taken owed slots begins ≡ 0) (k : slotsOk (dataOctetsOf rate) (length further) (length told) ≡ true) where
   ready : FillReady rate packets taken owed slots begins
@@ -186,11 +187,7 @@ pub filled-in-two : FilledInTwo
 filled-in-two rate packets taken owed slots begins further told h k =
     rw (numbers-filled rate packets taken owed slots begins h) (one-filling rate packets taken owed slots begins further told h k)
 
-or-true : (a b : Bool) → b ≡ true → (a || b) ≡ true
-or-true true b e = refl
-or-true false b e = e
-
--- (a) what arrives
+-- what arrives
 module _ (rate : ℕ) (packets : List ℕ) (taken owed : ℕ) (slots begins lost received : List ℕ) (f : ℕ) (area : List ℕ)
     (m : Monitored rate packets taken owed slots begins lost received f area) where
   filling : FillReady rate packets taken owed slots begins

@@ -1,6 +1,6 @@
 -- Laws of choosing by a test: what a number 0 says of the tests on the way to it.
 use mathlib.Core.Path.{_≡_, refl, sym, _∙_}
-use mathlib.Core.Bool.{Bool, true, false, _&&_, false≢true}
+use mathlib.Core.Bool.{Bool, true, false, _&&_, _||_, false≢true}
 use Prim.Native.Nat.{ℕ, _<_}
 use native.Mathlib.Decide.{ℕ-discrete}
 use native.Mathlib.Omega.{arith}
@@ -18,6 +18,15 @@ and-right false b h = absurd (false≢true h)
 pub and-both : (a b : Bool) → a ≡ true → b ≡ true → (a && b) ≡ true
 and-both true b h k = k
 and-both false b h k = h
+
+-- either holds
+pub or-cases : {C : Type 0} (a b : Bool) → (a || b) ≡ true → (a ≡ true → C) → (a ≡ false → b ≡ true → C) → C
+or-cases true b h f g = f refl
+or-cases false b h f g = g refl h
+
+pub or-true : (a b : Bool) → b ≡ true → (a || b) ≡ true
+or-true true b e = refl
+or-true false b e = e
 
 pub false-of : (b : Bool) → (b ≡ true → ⊥) → b ≡ false
 false-of true h = absurd (h refl)

@@ -2,9 +2,9 @@
 use mathlib.Core.Path.{_≡_, refl, sym, ap, ap₂, _∙_}
 use mathlib.Core.Logic.{⊎-elim}
 use mathlib.Core.Bool.{Bool, true, false, _&&_}
-use mathlib.Core.List.{List, [], _∷_, _++_}
+use mathlib.Core.List.{List, [], _∷_, _++_, append-nil, append-assoc}
 use Prim.Native.Nat.{ℕ, zero, suc, _+_, _-_, _*_, _<_, _≤_}
-use native.Mathlib.Nat.{le-of-suc-le-suc, eq-or-lt-of-le, not-suc-le-zero, suc-mul}
+use native.Mathlib.Nat.{le-of-suc-le-suc, eq-or-lt-of-le, not-suc-le-zero, suc-mul, add-suc, add-zero}
 use native.Mathlib.Decide.{ℕ-discrete, decLt}
 use native.Mathlib.Numerals.{add-one}
 use native.Mathlib.Omega.{arith}
@@ -13,7 +13,7 @@ use lib.Dec.{ltb}
 use lib.ListN.{length, getD, drop, length-append, length-drop, List·getD-append}
 use lib.Seq.{ext-getD, getD-at, take-append-le, drop-append-le, take-all, drop-at}
 use Rattle.lists.specs.Choice.{pick}
-use Rattle.lists.specs.ChoiceLaws.{and-left, and-right, and-both, false-of, clash}
+use Rattle.lists.specs.ChoiceLaws.{and-left, and-right, and-both, false-of, clash, same-test}
 use Rattle.lists.specs.Count.{sum, every, first, table, joined}
 use Rattle.lists.specs.Parts.{part}
 
@@ -80,6 +80,12 @@ every-next n f a b = every-more n f ∙ and-both (every n f) (f n) a b
 pub every-not : (n : ℕ) (f : ℕ → Bool) (k : ℕ) → k < n → f k ≡ false → every n f ≡ false
 every-not n f k h e = false-of (every n f) (λ t. clash (f k) e (every-at n f t k h))
 
+pub every-same : (n : ℕ) (f g : ℕ → Bool) → ((k : ℕ) → k < n → f k ≡ g k) → every n f ≡ every n g
+every-same n f g h =
+    same-test (every n f) (every n g)
+    (λ t. every-all n g (λ k l. sym (h k l) ∙ every-at n f t k l))
+    (λ t. every-all n f (λ k l. h k l ∙ every-at n g t k l))
+
 -- what makes r the first k below n of which f holds
 pub record First (n : ℕ) (f : ℕ → Bool) (r : ℕ) : Type 0 where
   pub within : r ≤ n
@@ -130,6 +136,12 @@ unfolding first
 first-first zero f = record { within = omega arith; before = λ k j. absurd (omega arith); there = λ k. absurd (omega arith) }
 first-first (suc n) f = first-next n f (first n f) (first-first n f) (ltb (first n f) n) (f n) refl refl
 
+pub first-same : (n : ℕ) (f g : ℕ → Bool) → ((k : ℕ) → k < n → f k ≡ g k) → first n f ≡ first n g
+first-same n f g h =
+    let r = first-first n g in
+    let w = r .within in
+    first-is n f (first n g) (record { within = w; before = λ k l. h k (omega arith) ∙ r .before k l; there = λ l. h (first n g) l ∙ r .there l })
+
 pub length-table : (n : ℕ) (f : ℕ → ℕ) → length (table n f) ≡ n
 unfolding table
 length-table zero f = refl
@@ -151,6 +163,12 @@ table-is n f xs l h =
 pub table-same : (n : ℕ) (f g : ℕ → ℕ) → ((k : ℕ) → k < n → f k ≡ g k) → table n f ≡ table n g
 table-same n f g h = table-is n g (table n f) (length-table n f) (λ k l. getD-table n f k l ∙ h k l)
 
+pub table-split : (m n : ℕ) (f : ℕ → ℕ) → table (m + n) f ≡ table m f ++ table n (λ i. f (m + i))
+unfolding table
+table-split m zero f = rw add-zero (sym (append-nil (table m f)))
+table-split m (suc n) f =
+    rw add-suc (ap (λ (xs : List ℕ). xs ++ (f (m + n) ∷ [])) (table-split m n f) ∙ append-assoc (table m f) (table n (λ i. f (m + i))) (f (m + n) ∷ []))
+
 pub joined-none : (f : ℕ → List ℕ) → joined 0 f ≡ []
 unfolding joined
 joined-none f = refl
@@ -163,6 +181,27 @@ pub joined-same : (n : ℕ) (f g : ℕ → List ℕ) → ((k : ℕ) → k < n �
 unfolding joined
 joined-same zero f g h = refl
 joined-same (suc n) f g h = ap₂ (λ (x y : List ℕ). x ++ y) (joined-same n f g (λ k l. h k (omega arith))) (h n (omega arith))
+
+-- lists that are empty add nothing
+joined-add : (f : ℕ → List ℕ) (p d : ℕ) → ((i : ℕ) → p ≤ i → i < p + d → f i ≡ []) → joined (p + d) f ≡ joined p f
+joined-add f p zero h = rw add-zero
+joined-add f p (suc d) h =
+    let e : p + suc d ≡ p + d + 1 = omega arith in
+    rw (e, joined-more (p + d) f, h (p + d) (omega arith) (omega arith))
+    (append-nil (joined (p + d) f) ∙ joined-add f p d (λ i a b. h i a (omega arith)))
+
+pub joined-quiet : (f : ℕ → List ℕ) (p q : ℕ) → p ≤ q → ((i : ℕ) → p ≤ i → i < q → f i ≡ []) → joined q f ≡ joined p f
+joined-quiet f p q l h =
+    let e : p + (q - p) ≡ q = omega arith in
+    rw e at (joined-add f p (q - p) (λ i a b. h i a (omega arith)))
+
+-- empty lists in front may be left out
+pub joined-shift : (f : ℕ → List ℕ) (p d : ℕ) → ((i : ℕ) → i < p → f i ≡ []) → joined (p + d) f ≡ joined d (λ k. f (p + k))
+joined-shift f p zero h = rw add-zero (joined-quiet f 0 p (omega arith) (λ i a b. h i b) ∙ joined-none f ∙ sym (joined-none (λ k. f (p + k))))
+joined-shift f p (suc d) h =
+    let e : p + suc d ≡ p + d + 1 = omega arith in
+    let m : suc d ≡ d + 1 = omega arith in
+    rw (e, m) (joined-more (p + d) f ∙ ap (λ (xs : List ℕ). xs ++ f (p + d)) (joined-shift f p d h) ∙ sym (joined-more d (λ k. f (p + k))))
 
 -- where list k begins
 abbrev pub joinedAt : (ℕ → List ℕ) → ℕ → ℕ

@@ -10,7 +10,7 @@ use borrow.Author.Tests.{lt-ltb, le-ltb, ltb-true, eq-eqb, ne-eqb, eqb-true, leb
 use lib.Dec.{eqb, leb, ltb}
 use lib.ListN.{length, getD}
 use Rattle.lists.specs.Choice.{pick}
-use Rattle.lists.specs.ChoiceLaws.{and-left, and-right, then-zero, not-refused}
+use Rattle.lists.specs.ChoiceLaws.{and-left, and-right, or-true, then-zero, not-refused}
 use Rattle.lists.specs.Count.{every, first}
 use Rattle.lists.specs.CountLaws.{every-at, every-all, every-not}
 use Rattle.refusal.specs.Numbers.{PLAN, LENGTH, PACKET}
@@ -86,11 +86,7 @@ report-place D b k = go (first D (λ i. b (D * k + i))) (ltb (first D (λ i. b (
   where
     go : (r : ℕ) (t : Bool) → ltb r D ≡ t → placeOk D (pick t r none) ≡ true
     go r true e = rw e
-    go r false e = go-none (ltb none D)
-      where
-        go-none : (t : Bool) → (t || true) ≡ true
-        go-none true = refl
-        go-none false = refl
+    go r false e = or-true (ltb none D) (eqb none none) refl
 
 module _ (f : ℕ → Bool) (xs : List ℕ) (k : ℕ) where
   pub hold-not : k < length xs → f (getD xs k 0) ≡ false → false ≡ allHold f xs

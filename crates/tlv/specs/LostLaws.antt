@@ -8,9 +8,8 @@ use lib.Dec.{eqb, leb, ltb}
 use lib.ListN.{getD}
 use Rattle.lists.specs.Choice.{pick}
 use Rattle.lists.specs.ChoiceLaws.{and-left, and-right}
-use Rattle.lists.specs.CountLaws.{first-first}
+use Rattle.lists.specs.CountLaws.{first-first, first-same}
 use Rattle.tlv.specs.Fill.{none}
-use Rattle.tlv.specs.FillLaws.{first-same}
 use Rattle.tlv.specs.Read.{lostSlot, meets, reporting, onFrom, Step, whole, wrong, step, read, start}
 use Rattle.tlv.specs.SlotLaws.{after-same}
 

@@ -1,4 +1,4 @@
--- Laws of packets in octets by position: two places whose octets agree hold the same packet; heads of packetsFrom packets.
+-- Laws of packets in octets by position: two places whose octets agree hold the same packet; the heads of right packets.
 use mathlib.Core.Path.{_≡_, refl, sym, ap, _∙_}
 use mathlib.Core.Bool.{Bool, true, false, not, _||_}
 use Prim.Native.Nat.{ℕ, zero, suc, _+_, _-_, _<_, _≤_}
@@ -6,20 +6,13 @@ use native.Mathlib.Nat.{add-zero}
 use native.Mathlib.Omega.{arith}
 use borrow.Author.Tests.{lt-ltb, le-ltb, ltb-true, eq-eqb, ne-eqb, eqb-true, leb-true}
 use lib.Dec.{eqb, leb, ltb}
-use Rattle.lists.specs.ChoiceLaws.{and-left, and-right, same-test}
-use Rattle.lists.specs.Count.{every}
-use Rattle.lists.specs.CountLaws.{every-at, every-all}
+use Rattle.lists.specs.ChoiceLaws.{and-left, and-right, or-cases}
+use Rattle.lists.specs.CountLaws.{every-same}
 use Rattle.tlv.specs.Packets.{headOk, sizeAt, bodyOk, emptyNull, packetsFrom, headFrom}
 
 pub size-least : (o : ℕ → ℕ) (p : ℕ) → 4 ≤ sizeAt o p
 unfolding sizeAt
 size-least o p = omega arith
-
-every-same : (n : ℕ) (f g : ℕ → Bool) → ((k : ℕ) → k < n → f k ≡ g k) → every n f ≡ every n g
-every-same n f g h =
-    same-test (every n f) (every n g)
-    (λ t. every-all n g (λ k l. sym (h k l) ∙ every-at n f t k l))
-    (λ t. every-all n f (λ k l. h k l ∙ every-at n g t k l))
 
 -- the m octets of o from p on are those of u from q on
 module _ (o u : ℕ → ℕ) (p q m : ℕ) (same : (k : ℕ) → k < m → o (p + k) ≡ u (q + k)) (four : 4 ≤ m) where
@@ -48,10 +41,6 @@ module _ (o u : ℕ → ℕ) (p q m : ℕ) (same : (k : ℕ) → k < m → o (p 
       let a : p + 4 + k ≡ p + (4 + k) = omega arith in
       let b : q + 4 + k ≡ q + (4 + k) = omega arith in
       rw (a, b, same (4 + k) (omega arith)))))
-
-or-cases : {C : Type 0} (a b : Bool) → (a || b) ≡ true → (a ≡ true → C) → (a ≡ false → b ≡ true → C) → C
-or-cases true b h f g = f refl
-or-cases false b h f g = g refl h
 
 head-before : (o : ℕ → ℕ) (f h j : ℕ) → j < h → headFrom o f h j ≡ false
 unfolding headFrom

@@ -1,4 +1,4 @@
--- Every step of a reading goes on: any number of steps that is enough gives the same reading, and what it writes fits.
+-- Every step of a reading goes on: any number of steps that is enough gives the same reading.
 use mathlib.Core.Path.{_≡_, refl, sym, ap, _∙_}
 use mathlib.Core.Bool.{Bool, true, false, not, _&&_}
 use mathlib.Core.List.{List, []}

@@ -3,7 +3,7 @@ use mathlib.Core.Path.{_≡_, refl, sym, ap, _∙_}
 use mathlib.Core.Bool.{Bool, true, false, not, _&&_}
 use mathlib.Core.List.{List, [], _++_, append-nil, append-assoc}
 use Prim.Native.Nat.{ℕ, zero, suc, _+_, _-_, _*_, _/_, _<_, _≤_}
-use native.Mathlib.Nat.{add-zero, mul-le-mul-left}
+use native.Mathlib.Nat.{mul-le-mul-left}
 use native.Mathlib.Decide.{decLt}
 use native.Mathlib.Omega.{arith}
 use borrow.Author.Tests.{lt-ltb, le-ltb, ltb-true, ltb-false, le-leb, lt-leb, leb-true, eq-eqb, ne-eqb, eqb-true, eqb-false, not-false}
@@ -12,7 +12,7 @@ use lib.ListN.{getD}
 use Rattle.lists.specs.Choice.{pick}
 use Rattle.lists.specs.ChoiceLaws.{and-left, and-right, clash}
 use Rattle.lists.specs.Count.{first, joined}
-use Rattle.lists.specs.CountLaws.{First, first-first, first-is, joined-none, joined-more}
+use Rattle.lists.specs.CountLaws.{First, first-first, first-is, joined-none, joined-more, joined-quiet}
 use Rattle.tlv.specs.Packets.{sizeAt, emptyNull, run}
 use Rattle.tlv.specs.PacketLaws.{size-least}
 use Rattle.tlv.specs.Fill.{report}
@@ -25,18 +25,6 @@ use Rattle.tlv.specs.SlotLaws.{slot-low, slot-high, slot-below, slot-fro
 unfoldable pub arrives : ℕ → ℕ → List ℕ → (ℕ → ℕ) → (ℕ → Bool) → ℕ → List ℕ
 arrives D n lost o b i =
     pick (untouched D n lost o b i && (leb (i + sizeAt o i) (D * n) && not (emptyNull o i))) (run o i (sizeAt o i)) []
-
-joined-add : (f : ℕ → List ℕ) (p d : ℕ) → ((i : ℕ) → p ≤ i → i < p + d → f i ≡ []) → joined (p + d) f ≡ joined p f
-joined-add f p zero h = rw add-zero
-joined-add f p (suc d) h =
-    let e : p + suc d ≡ p + d + 1 = omega arith in
-    rw (e, joined-more (p + d) f, h (p + d) (omega arith) (omega arith))
-    (append-nil (joined (p + d) f) ∙ joined-add f p d (λ i a b. h i a (omega arith)))
-
-pub joined-quiet : (f : ℕ → List ℕ) (p q : ℕ) → p ≤ q → ((i : ℕ) → p ≤ i → i < q → f i ≡ []) → joined q f ≡ joined p f
-joined-quiet f p q l h =
-    let e : p + (q - p) ≡ q = omega arith in
-    rw e at (joined-add f p (q - p) (λ i a b. h i a (omega arith)))
 
 -- what a slot's report says
 pub record Told (D : ℕ) (b : ℕ → Bool) (k r : ℕ) : Type 0 where

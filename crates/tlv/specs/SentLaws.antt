@@ -1,16 +1,15 @@
 -- What arrives of a filled stream is what arrives of the lent packets.
 use mathlib.Core.Path.{_≡_, refl, sym, ap, _∙_}
 use mathlib.Core.Bool.{Bool, true, false, and-false}
-use mathlib.Core.List.{List, [], _++_}
-use Prim.Native.Nat.{ℕ, zero, suc, _+_, _-_, _*_, _%_, _<_, _≤_}
-use native.Mathlib.Nat.{add-zero}
+use mathlib.Core.List.{List, []}
+use Prim.Native.Nat.{ℕ, _+_, _-_, _*_, _%_, _<_, _≤_}
 use native.Mathlib.Omega.{arith}
 use borrow.Author.Tests.{lt-ltb, le-ltb, le-leb, lt-leb, eqb-true}
 use lib.Dec.{leb}
 use lib.ListN.{length, getD}
 use lib.Seq.{getD-take, getD-drop}
 use Rattle.lists.specs.Count.{joined}
-use Rattle.lists.specs.CountLaws.{joined-none, joined-more, joined-same, table-is, table-same}
+use Rattle.lists.specs.CountLaws.{joined-same, table-is, table-same, joined-quiet, joined-shift}
 use Rattle.lists.specs.Parts.{part}
 use Rattle.lists.specs.PartLaws.{length-part}
 use Rattle.tlv.specs.Packets.{octets, packetsOk, sizeAt, emptyNull, run, headAt}
@@ -18,15 +17,8 @@ use Rattle.tlv.specs.PacketLaws.{Packet, size-least, size-same, null-sam
 use Rattle.tlv.specs.Fill.{filler, sentAt, sentBegins, streamAt, streamBegins}
 use Rattle.tlv.specs.FillLaws.{sent-behind, begins-behind}
 use Rattle.tlv.specs.Honest.{sent-within, begins-within}
-use Rattle.tlv.specs.ReadLaws.{arrives, joined-quiet}
+use Rattle.tlv.specs.ReadLaws.{arrives}
 use Rattle.tlv.specs.Sent.{untouched, sentPacket}
-
-joined-shift : (f : ℕ → List ℕ) (p d : ℕ) → ((i : ℕ) → i < p → f i ≡ []) → joined (p + d) f ≡ joined d (λ k. f (p + k))
-joined-shift f p zero h = rw add-zero (joined-quiet f 0 p (omega arith) (λ i a b. h i b) ∙ joined-none f ∙ sym (joined-none (λ k. f (p + k))))
-joined-shift f p (suc d) h =
-    let e : p + suc d ≡ p + d + 1 = omega arith in
-    let m : suc d ≡ d + 1 = omega arith in
-    rw (e, m) (joined-more (p + d) f ∙ ap (λ (xs : List ℕ). xs ++ f (p + d)) (joined-shift f p d h) ∙ sym (joined-more d (λ k. f (p + k))))
 
 pub part-run : (p m : ℕ) (xs : List ℕ) → p + m ≤ length xs → part p (p + m) xs ≡ run (octets xs) p m
 part-run p m xs h =

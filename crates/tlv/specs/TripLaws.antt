@@ -1,4 +1,4 @@
--- (a) What was filled and is read with its reports, some slots lost, is what arrives of it.
+-- What was filled and is read with its reports, some slots lost, is what arrives of it.
 use mathlib.Core.Path.{_≡_, refl, ap, _∙_}
 use mathlib.Core.Bool.{Bool, true, false, not, _&&_}
 use mathlib.Core.List.{List, []}
@@ -46,7 +46,7 @@ module _ (D n : ℕ) (pos : 0 < D) (small : D ≤ 65535) (some : 0 < n) (packets
       ∙ read-honest D n pos lost (reports D n packets taken owed) (streamAt packets taken owed) (streamBegins packets taken owed)
       (stream-honest packets ok taken owed) reports-told some f h
 
-  -- (a) exactly the sent packets that lie whole in the slots, touch no lost slot and are no empty nulls, in order; and
+  -- exactly the sent packets that lie whole in the slots, touch no lost slot and are no empty nulls, in order; and
   -- the cut one that touches no lost slot is the unfinished one
   pub round-trip : taken ≤ length packets → owed ≤ D * n → (lost slots : List ℕ) → Agree D n lost slots (filled packets taken owed (D * n))
       → (f : ℕ) → ((f ≡ 65535 → ⊥) → f ≡ getD (reports D n packets taken owed) 0 0)

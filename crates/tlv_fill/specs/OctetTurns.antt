@@ -7,12 +7,12 @@ use borrow.Author.Tests.{lt-ltb, le-ltb}
 use borrow.Rule.Slice.PartMut.{putMid}
 use lib.ListN.{length, getD}
 use Rattle.lists.specs.Count.{table}
-use Rattle.lists.specs.CountLaws.{length-table, table-same}
+use Rattle.lists.specs.CountLaws.{length-table, table-same, table-split}
 use Rattle.lists.specs.Parts.{part}
 use Rattle.lists.specs.PartLaws.{length-part, three-parts}
 use Rattle.tlv.specs.Packets.{octets, run}
 use Rattle.tlv.specs.Fill.{filler, sentAt, streamAt, filled}
-use Rattle.tlv.specs.FillLaws.{table-split, sent-behind}
+use Rattle.tlv.specs.FillLaws.{sent-behind}
 use Rattle.tlv.specs.Honest.{sent-within}
 use Rattle.tlv.specs.SentLaws.{part-run}
 use Rattle.tlv_fill.specs.Needs.{LayNeeds}
