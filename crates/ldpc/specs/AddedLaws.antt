@@ -1,18 +1,19 @@
 -- Laws of adding bits to sums, one step after another, and of the sums that this leaves in columns.
 use mathlib.Core.Path.{_≡_, refl, ap, _∙_}
 use mathlib.Core.List.{List}
-use Prim.Native.Nat.{ℕ, _+_, _%_, _<_}
-use native.Mathlib.Nat.{zero-add, mod-lt, div-lt-iff-lt-mul}
+use Prim.Native.Nat.{ℕ, _+_, _*_, _%_, _<_}
+use native.Mathlib.Nat.{zero-add}
 use native.Mathlib.Omega.{arith}
 use lib.ListN.{length, getD, replicate, length-replicate, getD-replicate}
 use Rattle.lists.specs.Count.{sum, table}
-use Rattle.lists.specs.CountLaws.{sum-more, length-table, getD-table}
+use Rattle.lists.specs.CountLaws.{sum-more}
 use Rattle.parity_table.specs.Tables.{positions}
-use Rattle.ldpc.specs.Parity.{spacing, times, running, parityOf}
-use Rattle.ldpc.specs.ParityLaws.{running-same, parityOf-is}
+use Rattle.ldpc.specs.Parity.{spacing, running}
+use Rattle.ldpc.specs.Stepping.{timesStepped, parityStepped}
+use Rattle.ldpc.specs.SteppedParityLaws.{parityStepped-is}
 use Rattle.ldpc.specs.Columns.{across}
-use Rattle.ldpc.specs.ColumnLaws.{across-back}
-use Rattle.ldpc.specs.Needs.{Added}
+use Rattle.ldpc.specs.ColumnLaws.{place-below, across-back}
+use Rattle.ldpc.specs.Needs.{Added, AddedBySteps}
 
 -- nothing is added yet
 pub added-none : (s : List ℕ) (f : ℕ → ℕ) → ((j : ℕ) → f j ≡ 0) → Added s s f
@@ -28,32 +29,27 @@ added-then s₀ s s′ f g h a b e = record {
   at = λ j l. rw (e j) (sum-then (getD s j 0) (getD s₀ j 0) (getD s′ j 0) (f j) (g j) (a .at j l) (b .at j (omega (arith, a .same))));
 }
 
--- cleared sums, added to, are what was added, modulo 2
-sums-times : (m : ℕ) (f : ℕ → ℕ) (s₀ s : List ℕ) → s₀ ≡ replicate m 0 → Added s₀ s f → (j : ℕ) → j < m → getD s j 0 % 2 ≡ f j % 2
-sums-times m f s₀ s e a j h =
-    let l : j < length s₀ = rw (e, length-replicate) h in
-    a .at j l ∙ rw (e, getD-replicate {A = ℕ} m j 0 0 h, zero-add)
+-- in the columns, the sum of a position has added to it what the position is reached by
+pub added-at : (q : ℕ) (s₀ s : List ℕ) (f : ℕ → ℕ) → length s₀ ≡ 374 * q → Added s₀ s (λ n. f (across q 374 n))
+    → (p : ℕ) → p < 374 * q → getD s (across 374 q p) 0 % 2 ≡ (getD s₀ (across 374 q p) 0 + f p) % 2
+added-at q s₀ s f l a p h =
+    a .at (across 374 q p) (omega (arith, place-below q p h)) ∙ ap (λ (k : ℕ). (getD s₀ (across 374 q p) 0 + f k) % 2) (across-back q p h)
 
 -- the running sum, one position on
 pub carry-more : (last x : ℕ) (f : ℕ → ℕ) (j : ℕ) → last ≡ sum j f % 2 → x % 2 ≡ f j % 2 → (last + x) % 2 ≡ sum (j + 1) f % 2
 carry-more last x f j e h = omega (arith, sum-more j f)
 
--- the coder and the check: cleared, added to in columns, summed up in the order of the positions
+-- the coder and the check: cleared, added to in columns by steps, summed up in the order of the positions
 module _ (rows : ℕ) (t u columns₀ columns : List ℕ) (e : columns₀ ≡ replicate (positions rows) 0)
-    (a : Added columns₀ columns (λ n. times rows t u (across (spacing rows) 374 n))) where
+    (a : AddedBySteps rows t u columns₀ columns) where
   -- the sum of a position
-  pub sum-at : (p : ℕ) → p < positions rows → getD columns (across 374 (spacing rows) p) 0 % 2 ≡ times rows t u p % 2
+  pub sum-at : (p : ℕ) → p < positions rows → getD columns (across 374 (spacing rows) p) 0 % 2 ≡ timesStepped (spacing rows) t u rows p % 2
   sum-at p h =
-      let z : 0 < spacing rows = omega arith in
-      let c = mod-lt p z in
-      let d = div-lt-iff-lt-mul z .1 h in
-      sums-times (positions rows) (λ n. times rows t u (across (spacing rows) 374 n)) columns₀ columns e a (across 374 (spacing rows) p) (omega arith)
-      ∙ ap (λ (k : ℕ). times rows t u k % 2) (across-back (spacing rows) p h)
+      let l : length columns₀ ≡ positions rows = rw e (length-replicate {A = ℕ} (positions rows) 0) in
+      let z : getD columns₀ (across 374 (spacing rows) p) 0 ≡ 0 = rw e (getD-replicate {A = ℕ} (positions rows) _ 0 0 (place-below (spacing rows) p h)) in
+      added-at (spacing rows) columns₀ columns (timesStepped (spacing rows) t u rows) l a p h ∙ rw (z, zero-add)
 
   -- their running sums are the parity
-  pub coded : (sums : List ℕ) → sums ≡ table (positions rows) (running (λ p. getD columns (across 374 (spacing rows) p) 0)) → sums ≡ parityOf rows t u
+  pub coded : (sums : List ℕ) → sums ≡ table (positions rows) (running (λ p. getD columns (across 374 (spacing rows) p) 0)) → sums ≡ parityStepped rows t u
   coded sums r =
-      parityOf-is rows t u sums (ap length r ∙ length-table (positions rows) _) (λ j h.
-      ap (λ (x : List ℕ). getD x j 0) r
-      ∙ getD-table (positions rows) _ j h
-      ∙ running-same (λ p. getD columns (across 374 (spacing rows) p) 0) (times rows t u) j (λ k i. sum-at k (omega arith)))
+      r ∙ parityStepped-is rows t u (λ p. getD columns (across 374 (spacing rows) p) 0) sum-at

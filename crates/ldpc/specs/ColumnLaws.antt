@@ -2,18 +2,18 @@
 use mathlib.Core.Path.{_≡_, refl, sym, ap, ap₂, _∙_}
 use mathlib.Core.List.{List, _++_}
 use Prim.Native.Nat.{ℕ, zero, suc, _+_, _*_, _-_, _%_, _/_, _<_, _≤_}
-use native.Mathlib.Nat.{mod-lt, mod-eq-of-lt, div-eq-of-lt, mul-add-mod-self-left, mul-add-div, div-add-mod, div-lt-iff-lt-mul, mul-comm, mul-add, mul-assoc, mul-left-comm, mul-le-mul-left}
+use native.Mathlib.Nat.{mod-lt, mod-eq-of-lt, div-eq-of-lt, mul-add-mod-self-left, mul-add-div, div-add-mod, div-lt-iff-lt-mul, mul-add, mul-le-mul-left}
 use native.Mathlib.Decide.{ℕ-discrete, decLt}
 use native.Mathlib.Omega.{arith}
 use borrow.Author.Tests.{eq-eqb, ne-eqb}
 use lib.ListN.{length, getD, take, drop, length-drop, List·getD-append}
 use lib.Seq.{length-take-le, getD-take, getD-drop, getD-append-add}
 use Rattle.lists.specs.Count.{sum}
-use Rattle.lists.specs.CountLaws.{sum-add, sum-same, sum-each}
-use Rattle.lists.specs.Parts.{part, put}
-use Rattle.ldpc.specs.Parity.{spacing, bitTimes, rowTimes}
-use Rattle.ldpc.specs.ParityLaws.{bitTimes-none, bitTimes-more}
-use Rattle.ldpc.specs.Columns.{across, turned, addressTimes}
+use Rattle.lists.specs.CountLaws.{sum-each}
+use Rattle.lists.specs.Parts.{put}
+use Rattle.ldpc.specs.Stepping.{stepped, addressTimes}
+use Rattle.ldpc.specs.StepLaws.{stepped-mod, turn-below, stepped-column}
+use Rattle.ldpc.specs.Columns.{across, turned}
 
 -- the number counted along the rows of what stands in place j of column c
 pub across-at : (a b c j : ℕ) → j < b → across a b (b * c + j) ≡ a * j + c
@@ -22,6 +22,13 @@ across-at a b c j h =
     let r : (b * c + j) % b ≡ j = mul-add-mod-self-left b c j ∙ mod-eq-of-lt h in
     let d : (b * c + j) / b ≡ c = mul-add-div z c j ∙ omega (arith, div-eq-of-lt h) in
     ap₂ (λ (x y : ℕ). a * x + y) r d
+
+-- the place of a position is one of the places
+pub place-below : (q p : ℕ) → p < 374 * q → across 374 q p < 374 * q
+place-below q p h =
+    let z : 0 < q = omega arith in
+    let b : p / q < 374 = div-lt-iff-lt-mul z .1 h in
+    omega (arith, mod-lt p z)
 
 -- the place of a position holds that position
 pub across-back : (q p : ℕ) → p < 374 * q → across q 374 (across 374 q p) ≡ p
@@ -43,14 +50,6 @@ across-same q x y u v hu hv e =
     let b = mul-add-div z y v in
     let d = ap (λ (n : ℕ). n / q) e in
     (omega (arith, div-eq-of-lt hu, div-eq-of-lt hv), r)
-
--- x times q, by the turns round a column and what is left
-turns : (q x : ℕ) → q * x ≡ 374 * q * (x / 374) + q * (x % 374)
-turns q x =
-    let d : ℕ = x / 374 in
-    ap (λ (n : ℕ). q * n) (sym (div-add-mod x 374))
-    ∙ mul-add q (374 * d) (x % 374)
-    ∙ ap (λ (n : ℕ). n + q * (x % 374)) (mul-left-comm q 374 d ∙ sym (mul-assoc 374 q d))
 
 -- a sum of which only term k is not 0
 sum-only : (n k : ℕ) (f : ℕ → ℕ) → k < n → ((i : ℕ) → i < n → (i ≡ k → ⊥) → f i ≡ 0) → sum n f ≡ f k
@@ -100,64 +99,48 @@ module _ (n : ℕ) (row : List ℕ) (l : length row ≡ 374) (h : n ≤ 374) whe
   turned-from : (k : ℕ) → k < 374 - n → getD (turned n row) (n + k) 0 ≡ getD row k 0
   turned-from k j = getD-behind (drop (374 - n) row) _ n k end ∙ getD-take (374 - n) row k 0 j
 
--- where the bits of a row go through an address
-module _ (q a : ℕ) (z : 0 < q) (h : a < 374 * q) where
-  pub turn-below : a / q < 374
-  turn-below = div-lt-iff-lt-mul z .1 h
+-- a position that no bit of a row is stepped to has nothing added through the address
+pub address-nowhere : (q a : ℕ) (row : List ℕ) (j : ℕ) → ((n : ℕ) → n < 374 → stepped q (374 * q) a n ≡ j → ⊥) → addressTimes q row a j ≡ 0
+unfolding addressTimes
+address-nowhere q a row j d = sum-each 374 0 _ (λ n l. rw (ne-eqb _ j (d n l))) ∙ omega arith
 
-  -- document 01's position of bit m, "(address + m × q) mod M", is the place m further on in the column of the address
-  pub position-column : (m : ℕ) → (a + m * q) % (374 * q) ≡ q * ((a / q + m) % 374) + a % q
-  position-column m =
-      let x : ℕ = a / q + m in
-      let r : x % 374 + 1 ≤ 374 = omega arith in
-      let l : q * (x % 374) + a % q < 374 * q = omega (arith, mod-lt a z, mul-le-mul-left q r, mul-add q (x % 374) 1) in
-      let s = turns q x in
-      let e : a + m * q ≡ 374 * q * (x / 374) + (q * (x % 374) + a % q) = omega (arith, div-add-mod a q, mul-add q (a / q) m, mul-comm m q) in
-      rw e (mul-add-mod-self-left (374 * q) (x / 374) (q * (x % 374) + a % q) ∙ mod-eq-of-lt l)
+-- what the bits of a row add through an address
+module _ (q a : ℕ) (z : 0 < q) (h : a < 374 * q) where
+  -- the place of bit n in the column
+  place : (n : ℕ) → stepped 1 374 (a / q) n ≡ (a / q + n) % 374
+  place n = stepped-mod 1 374 (a / q) (omega arith) (turn-below q a z h) n ∙ ap (λ (k : ℕ). (a / q + k) % 374) (omega arith)
 
   -- the one bit that reaches place j of the column
-  only : (row : List ℕ) (j m : ℕ) → m < 374 → (a / q + m) % 374 ≡ j → addressTimes q row a (q * j + a % q) ≡ getD row m 0
+  pub address-bit : (row : List ℕ) (j n : ℕ) → n < 374 → stepped 1 374 (a / q) n ≡ j → addressTimes q row a (q * j + a % q) ≡ getD row n 0
   unfolding addressTimes
-  only row j m l e =
-      sum-only 374 m _ l (λ i k d. rw (ne-eqb _ (q * j + a % q) (λ (w : (a + i * q) % (374 * q) ≡ q * j + a % q). d (other i k (across-same q _ j _ _ (mod-lt a z) (mod-lt a z) (sym (position-column i) ∙ w) .0)))))
-      ∙ rw (eq-eqb _ (q * j + a % q) (position-column m ∙ ap (λ (x : ℕ). q * x + a % q) e))
+  address-bit row j n l e =
+      sum-only 374 n _ l (λ i k d. rw (ne-eqb _ (q * j + a % q) (λ (w : stepped q (374 * q) a i ≡ q * j + a % q). d (other i k (across-same q _ j _ _ (mod-lt a z) (mod-lt a z) (sym (stepped-column q a z h i) ∙ w) .0)))))
+      ∙ rw (eq-eqb _ (q * j + a % q) (stepped-column q a z h n ∙ ap (λ (x : ℕ). q * x + a % q) e))
     where
-      other : (i : ℕ) → i < 374 → (a / q + i) % 374 ≡ j → i ≡ m
-      other i k w = omega (arith, turn-below)
+      other : (i : ℕ) → i < 374 → stepped 1 374 (a / q) i ≡ j → i ≡ n
+      other i k w = omega (arith, turn-below q a z h, place i, place n)
+
+  -- bit n of the row at the position stepped to
+  pub address-stepped : (row : List ℕ) (n : ℕ) → n < 374 → addressTimes q row a (stepped q (374 * q) a n) ≡ getD row n 0
+  address-stepped row n l = rw (stepped-column q a z h n) (address-bit row (stepped 1 374 (a / q) n) n l refl)
 
   -- what the address adds to its column
   pub address-there : (row : List ℕ) (j : ℕ) → length row ≡ 374 → j < 374 → addressTimes q row a (q * j + a % q) ≡ getD (turned (a / q) row) j 0
   address-there row j l k = go (decLt j (a / q))
     where
       go : Dec (j < a / q) → addressTimes q row a (q * j + a % q) ≡ getD (turned (a / q) row) j 0
-      go (yes b) = only row j (374 - a / q + j) (omega arith) (omega (arith, turn-below)) ∙ sym (turned-before (a / q) row l (omega (arith, turn-below)) j b)
+      go (yes b) =
+          let t = turn-below q a z h in
+          address-bit row j (374 - a / q + j) (omega arith) (place (374 - a / q + j) ∙ omega arith)
+          ∙ sym (turned-before (a / q) row l (omega arith) j b)
       go (no b) =
+          let t = turn-below q a z h in
           let e : a / q + (j - a / q) ≡ j = omega arith in
-          only row j (j - a / q) (omega arith) (omega (arith, turn-below))
-          ∙ sym (turned-from (a / q) row l (omega (arith, turn-below)) (j - a / q) (omega arith))
+          address-bit row j (j - a / q) (omega arith) (place (j - a / q) ∙ omega arith)
+          ∙ sym (turned-from (a / q) row l (omega arith) (j - a / q) (omega arith))
           ∙ ap (λ (i : ℕ). getD (turned (a / q) row) i 0) e
 
   -- and nothing to the others
   pub address-elsewhere : (row : List ℕ) (j c : ℕ) → c < q → (c ≡ a % q → ⊥) → addressTimes q row a (q * j + c) ≡ 0
-  unfolding addressTimes
   address-elsewhere row j c k d =
-      sum-each 374 0 _ (λ i _. rw (ne-eqb _ (q * j + c) (λ (w : (a + i * q) % (374 * q) ≡ q * j + c). d (sym (across-same q _ j _ _ (mod-lt a z) k (sym (position-column i) ∙ w) .1)))))
-      ∙ omega arith
-
--- a row's bits through its addresses, one address after the other
-module _ (rows : ℕ) (t u : List ℕ) (from base j : ℕ) where
-  pub row-none : rowTimes rows t u from 0 base 374 j ≡ 0
-  unfolding rowTimes
-  row-none = sum-each 374 0 _ (λ m _. bitTimes-none rows t from m (getD u (base + m) 0) j) ∙ omega arith
-
-  bit-at : (m : ℕ) → m < 374 → getD (part base (base + 374) u) m 0 ≡ getD u (base + m) 0
-  bit-at m h = getD-take (base + 374 - base) (drop base u) m 0 (omega arith) ∙ getD-drop base u m 0
-
-  pub row-more : (n : ℕ)
-      → rowTimes rows t u from (n + 1) base 374 j
-      ≡ rowTimes rows t u from n base 374 j + addressTimes (spacing rows) (part base (base + 374) u) (getD t (from + n) 0) j
-  unfolding rowTimes addressTimes
-  row-more n =
-      sum-same 374 _ _ (λ m h.
-      rw (bit-at m h) (bitTimes-more rows t from m (getD u (base + m) 0) j n))
-      ∙ sum-add 374 (λ m. bitTimes rows t from n m (getD u (base + m) 0) j) _
+      address-nowhere q a row (q * j + c) (λ i _ w. d (sym (across-same q _ j _ _ (mod-lt a z) k (sym (stepped-column q a z h i) ∙ w) .1)))

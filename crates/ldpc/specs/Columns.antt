@@ -2,10 +2,7 @@
 -- position q × j + c stands in place j of column c: bit m of a row adds to the place m further on in the same column.
 use mathlib.Core.List.{List, _++_}
 use Prim.Native.Nat.{ℕ, _+_, _*_, _-_, _%_, _/_}
-use lib.Dec.{eqb}
-use lib.ListN.{getD, take, drop}
-use Rattle.lists.specs.Choice.{pick}
-use Rattle.lists.specs.Count.{sum}
+use lib.ListN.{take, drop}
 
 -- a field is a wide and b high: what is number n counted down its columns is this number counted along its rows. So
 -- `across q 374 n` is the position that stands at n in the columns, and position p stands there at `across 374 q p`
@@ -15,7 +12,3 @@ across a b n = a * (n % b) + n / b
 -- the 374 bits of a row turned by n places: bit m at n + m, less 374 when that is reached
 abbrev pub turned : ℕ → List ℕ → List ℕ
 turned n row = drop (374 - n) row ++ take (374 - n) row
-
--- how often the 374 bits of a row reach position j through the address a alone
-unfoldable pub addressTimes : ℕ → List ℕ → ℕ → ℕ → ℕ
-addressTimes q row a j = sum 374 (λ m. pick (eqb ((a + m * q) % (374 * q)) j) (getD row m 0) 0)

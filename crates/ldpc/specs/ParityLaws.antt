@@ -26,15 +26,6 @@ module _ (rows : ℕ) (t : List ℕ) (from m b j : ℕ) where
   unfolding bitTimes
   bitTimes-more n = sum-more n _
 
-module _ (rows : ℕ) (t u : List ℕ) (j : ℕ) where
-  pub timesTo-none : timesTo rows t u 0 j ≡ 0
-  unfolding timesTo
-  timesTo-none = sum-none _
-
-  pub timesTo-more : (r s : ℕ) → s ≡ rowStart t r → timesTo rows t u (r + 1) j ≡ timesTo rows t u r j + rowTimes rows t u (s + 1) (getD t s 0) (374 * r) 374 j
-  unfolding timesTo
-  timesTo-more r s e = rw e (sum-more r _)
-
 -- what holds of each term modulo 2 holds of the sums
 pub sum-parity : (n : ℕ) (f g h : ℕ → ℕ) → ((k : ℕ) → k < n → (f k + g k) % 2 ≡ h k % 2) → (sum n f + sum n g) % 2 ≡ sum n h % 2
 unfolding sum

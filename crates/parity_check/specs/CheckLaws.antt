@@ -24,13 +24,6 @@ use Rattle.parity_check.specs.Check.{lowestWrong, nextPlace}
 pub place-none : (q : ℕ) → 0 < q → across 374 q 0 ≡ 0
 place-none q z = omega (arith, mod-eq-of-lt z, div-eq-of-lt z)
 
--- the place of a position is one of the places
-pub place-below : (q p : ℕ) → p < 374 * q → across 374 q p < 374 * q
-place-below q p h =
-    let z : 0 < q = omega arith in
-    let b : p / q < 374 = div-lt-iff-lt-mul z .1 h in
-    omega (arith, mod-lt p z)
-
 -- and a step on is that of the next position
 pub place-next : (q edge p : ℕ) → edge + 374 ≡ 374 * q → p < 374 * q → nextPlace edge (across 374 q p) ≡ across 374 q (p + 1)
 place-next q edge p w h =
@@ -59,10 +52,6 @@ module _ (rows : ℕ) (t u received : List ℕ) where
         before = λ j h. ap not (eq-eqb (getD (parityOf rows t u) j 0) (getD received j 0) (b j h));
         there = λ h. ap not (ne-eqb (getD (parityOf rows t u) r 0) (getD received r 0) (n h));
       })
-
-  pub lowestWrong-within : lowestWrong rows t u received ≤ positions rows
-  unfolding lowestWrong
-  lowestWrong-within = first-first (positions rows) _ .within
 
   alike : (a b : ℕ) → not (eqb a b) ≡ false → a ≡ b
   alike a b h = go (ℕ-discrete a b)

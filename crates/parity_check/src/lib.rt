@@ -1,6 +1,9 @@
 // The check of received LDPC parity, over the coder's columns.
 ghost use mathlib.Core.Path.{_≡_};
 ghost use Prim.Native.Nat.{_<_};
+ghost use lib.ListN.{replicate};
+ghost use Rattle.parity_table.specs.Tables.{positions};
+ghost use Rattle.ldpc.specs.Needs.{AddedBySteps};
 ghost use Rattle.parity_check.specs.Check.{lowestWrong, nextPlace};
 ghost use Rattle.parity_check.specs.Needs.{Received};
 
@@ -28,6 +31,7 @@ pub fn lowest_wrong(
 ) -> usize
     requires { ⌜ Received rows (now table) (now bits) (now received) (now sums) ⌝ }
     ensures { λ r. ⌜ r ≡ lowestWrong rows (now (table .entry)) (now (bits .entry)) (now (received .entry)) ⌝ }
+    ensures { λ _. ⌜ AddedBySteps rows (now (table .entry)) (now (bits .entry)) (replicate (positions rows) 0) (now (sums .exit)) ⌝ }
 {
     bits::fill(sums, 0);
     let q = 120 - rows;

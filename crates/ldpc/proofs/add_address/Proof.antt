@@ -5,7 +5,7 @@ use native.Mathlib.Omega.{arith}
 use lib.ListN.{length}
 use borrow.Author.Needs.{needs}
 use Rattle.lists.specs.PartLaws.{length-part}
-use Rattle.ldpc.specs.ColumnLaws.{turn-below}
+use Rattle.ldpc.specs.StepLaws.{turn-below}
 use Rattle.ldpc.proofs.Turning.{column-ends, address-added}
 use Rattle.ldpc.proofs.add_address.Statement.{statement}
 use Rattle.ldpc.proofs.add_address.Tie as tie

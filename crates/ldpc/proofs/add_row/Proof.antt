@@ -5,9 +5,10 @@ use Prim.Native.Nat.{ℕ, _+_, _-_, _≤_}
 use native.Mathlib.Omega.{arith}
 use borrow.Author.Needs.{needs}
 use Rattle.lists.specs.PartLaws.{length-part}
-use Rattle.ldpc.specs.Parity.{spacing, rowTimes}
+use Rattle.ldpc.specs.Parity.{spacing}
+use Rattle.ldpc.specs.Stepping.{rowStepped}
+use Rattle.ldpc.specs.SteppedParityLaws.{rowStepped-none, rowStepped-more}
 use Rattle.ldpc.specs.Columns.{across}
-use Rattle.ldpc.specs.ColumnLaws.{row-none, row-more}
 use Rattle.ldpc.specs.Needs.{Added}
 use Rattle.ldpc.specs.AddedLaws.{added-none, added-then}
 use Rattle.ldpc.proofs.add_row.Statement.{statement}
@@ -15,7 +16,7 @@ use Rattle.ldpc.proofs.add_row.Tie as tie
 
 record Inv (rows : ℕ) (table : List ℕ) (from count : ℕ) (bits : List ℕ) (base : ℕ) (found columns : List ℕ) (i : ℕ) : Type 0 where
   within : i ≤ count
-  adding : Added found columns (λ n. rowTimes rows table bits from i base 374 (across (spacing rows) 374 n))
+  adding : Added found columns (λ n. rowStepped (spacing rows) table bits from i base (across (spacing rows) 374 n))
 
 abbrev Inv-loop : tie.InvT-loop
 Inv-loop rows table from count bits base columns₀ q end i₀ columns i = Inv rows table from count bits base columns₀ columns i
@@ -28,7 +29,7 @@ loop-holds c =
     let a = c .before .before .before .args in
     record {
       within = search needs;
-      adding = added-none _ _ (λ n. row-none (a .rows) (a .table .now) (a .bits .now) (a .from) (a .base) (across (spacing (a .rows)) 374 n));
+      adding = added-none _ _ (λ n. rowStepped-none (spacing (a .rows)) (a .table .now) (a .bits .now) (a .from) (a .base) (across (spacing (a .rows)) 374 n));
     }
 
 add-address-requires : tie.Need-add-address-requires Inv-loop μ-loop
@@ -52,7 +53,7 @@ loop-again c =
     record {
       within = search needs;
       adding = added-then _ (l .columns) _ _ _ _ (l .inv .adding) (b .add-address .ensures)
-          (λ n. rw e (row-more (a .rows) (a .table .now) (a .bits .now) (a .from) (a .base) (across (spacing (a .rows)) 374 n) (l .i)));
+          (λ n. rw e (rowStepped-more (spacing (a .rows)) (a .table .now) (a .bits .now) (a .from) (l .i) (a .base) (across (spacing (a .rows)) 374 n)));
     }
 
 returns : tie.Need-returns Inv-loop μ-loop

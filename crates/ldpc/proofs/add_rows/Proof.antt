@@ -7,8 +7,9 @@ use lib.ListN.{getD}
 use borrow.Author.Needs.{needs}
 use Rattle.parity_table.specs.Tables.{positions, rowStart}
 use Rattle.parity_table.specs.TableLaws.{Row, rowStart-none, rowStart-more, row-at}
-use Rattle.ldpc.specs.Parity.{spacing, timesTo}
-use Rattle.ldpc.specs.ParityLaws.{timesTo-none, timesTo-more}
+use Rattle.ldpc.specs.Parity.{spacing}
+use Rattle.ldpc.specs.Stepping.{timesStepped}
+use Rattle.ldpc.specs.SteppedParityLaws.{timesStepped-none, timesStepped-more}
 use Rattle.ldpc.specs.Columns.{across}
 use Rattle.ldpc.specs.Needs.{Added}
 use Rattle.ldpc.specs.AddedLaws.{added-none, added-then}
@@ -18,7 +19,7 @@ use Rattle.ldpc.proofs.add_rows.Tie as tie
 record Inv (rows : ℕ) (table bits found columns : List ℕ) (s r : ℕ) : Type 0 where
   within : r ≤ rows
   start : s ≡ rowStart table r
-  adding : Added found columns (λ n. timesTo rows table bits r (across (spacing rows) 374 n))
+  adding : Added found columns (λ n. timesStepped (spacing rows) table bits r (across (spacing rows) 374 n))
 
 abbrev Inv-loop : tie.InvT-loop
 Inv-loop rows table bits columns₀ s₀ r₀ columns s r = Inv rows table bits columns₀ columns s r
@@ -39,7 +40,7 @@ loop-holds c =
     record {
       within = search needs;
       start = sym (rowStart-none _);
-      adding = added-none _ _ (λ n. timesTo-none (a .rows) (a .table .now) (a .bits .now) (across (spacing (a .rows)) 374 n));
+      adding = added-none _ _ (λ n. timesStepped-none (spacing (a .rows)) (a .table .now) (a .bits .now) (across (spacing (a .rows)) 374 n));
     }
 
 add-row-requires : tie.Need-add-row-requires Inv-loop μ-loop
@@ -67,7 +68,7 @@ loop-again c =
       within = search needs;
       start = omega (arith, rowStart-more (a .table .now) (l .r), ap (λ (k : ℕ). getD (a .table .now) k 0) e);
       adding = added-then _ (l .columns) _ _ _ _ (l .inv .adding) (b .add-row .ensures)
-          (λ k. rw n (timesTo-more (a .rows) (a .table .now) (a .bits .now) (across (spacing (a .rows)) 374 k) (l .r) (l .s) e));
+          (λ k. rw n (timesStepped-more (spacing (a .rows)) (a .table .now) (a .bits .now) (across (spacing (a .rows)) 374 k) (l .r) (l .s) e));
     }
 
 returns : tie.Need-returns Inv-loop μ-loop

@@ -8,6 +8,7 @@ use lib.Seq.{length-take-le}
 use borrow.Author.Needs.{needs}
 use Rattle.parity_table.specs.Tables.{positions}
 use Rattle.parity_table.specs.Needs.{Rows}
+use Rattle.ldpc.specs.SteppedParityLaws.{parity-stepped}
 use Rattle.ldpc.proofs.parity.Statement.{statement}
 use Rattle.ldpc.proofs.parity.Tie as tie
 
@@ -22,6 +23,12 @@ parity-in-columns-requires c κs =
       places = lent (s .args .rows) (replicate 44506 0) (s .args .sums .now) (s .pre .rate) (s .pre .room) (length-replicate {A = ℕ} 44506 0);
     }
 
+returns : tie.Need-returns
+returns c =
+    let p = c .before .before .before in
+    let s = p .before .before .before .before .before .before in
+    p .parity-in-columns .ensures ∙ parity-stepped (s .args .rows) (s .args .table .now) (s .args .bits .now) (s .pre .ok)
+
 pub parity-spec : {M : Type 1} → statement M
 parity-spec =
     tie.close
@@ -31,4 +38,4 @@ parity-spec =
     (λ c. search needs)
     parity-in-columns-requires
     (λ c. search needs)
-    (λ c. search needs))
+    returns)

@@ -9,14 +9,15 @@ use borrow.Author.Needs.{needs}
 use Rattle.lists.specs.PartLaws.{length-part}
 use Rattle.parity_table.specs.Tables.{positions, rowStart}
 use Rattle.parity_table.specs.TableLaws.{Row, rowStart-none, rowStart-more, row-at}
-use Rattle.ldpc.specs.Parity.{spacing, rowTimes, timesTo, times}
-use Rattle.ldpc.specs.ParityLaws.{timesTo-none}
+use Rattle.ldpc.specs.Parity.{spacing}
+use Rattle.ldpc.specs.Stepping.{rowStepped, timesStepped}
+use Rattle.ldpc.specs.SteppedParityLaws.{rowStepped-none, rowStepped-more, timesStepped-none}
 use Rattle.ldpc.specs.Columns.{across}
-use Rattle.ldpc.specs.ColumnLaws.{row-none, row-more}
-use Rattle.ldpc.specs.Needs.{Added}
+use Rattle.ldpc.specs.ColumnLaws.{place-below}
+use Rattle.ldpc.specs.Needs.{Added, AddedBySteps}
 use Rattle.ldpc.specs.AddedLaws.{added-none, added-then}
-use Rattle.parity_check.specs.CheckLaws.{place-below, lowestWrong-is}
-use Rattle.parity_check.proofs.Passing.{Passed, timesTo-next, added-rows, passed-none, parity-at, passed-more}
+use Rattle.parity_check.specs.CheckLaws.{lowestWrong-is}
+use Rattle.parity_check.proofs.Passing.{Passed, timesStepped-next, added-rows, passed-none, parity-at, passed-more}
 use Rattle.parity_check.proofs.lowest_wrong.Statement.{statement}
 use Rattle.parity_check.proofs.lowest_wrong.Tie as tie
 
@@ -24,14 +25,14 @@ use Rattle.parity_check.proofs.lowest_wrong.Tie as tie
 record AtRow (rows : ℕ) (table bits received found sums : List ℕ) (s last position place r : ℕ) : Type 0 where
   within : r ≤ 120
   start : s ≡ rowStart table (min r rows)
-  adding : Added found sums (λ n. timesTo rows table bits (min r rows) (across (spacing rows) 374 n))
+  adding : Added found sums (λ n. timesStepped (spacing rows) table bits (min r rows) (across (spacing rows) 374 n))
   reached : position ≡ 374 * (r - rows)
   passed : Passed rows table bits received last position place
 
 -- the addresses of row r passed before address i
 record AtAddress (rows : ℕ) (table bits found : List ℕ) (s r count : ℕ) (sums : List ℕ) (i : ℕ) : Type 0 where
   within : i ≤ count
-  adding : Added found sums (λ n. rowTimes rows table bits (s + 1) i (374 * r) 374 (across (spacing rows) 374 n))
+  adding : Added found sums (λ n. rowStepped (spacing rows) table bits (s + 1) i (374 * r) (across (spacing rows) 374 n))
 
 -- the parity positions of a row passed before the k-th
 record AtBit (rows : ℕ) (table bits received : List ℕ) (first last position place k : ℕ) : Type 0 where
@@ -89,12 +90,11 @@ within c =
     (h, rw (l .inv .passed .stands) (place-below (spacing (a .rows)) (l .position) h))
 
 -- past the rows with addresses, every bit is added to the columns
-full : (c : tie.Else1 Inv-loop μ-loop Inv-loop2 μ-loop2 Inv-rows μ-rows) →
-    (let r = c .before .before in
-    let a = entry r .args in
-    Added (replicate (positions (a .rows)) 0) (r .rows .sums) (λ n. times (a .rows) (a .table .now) (a .bits .now) (across (spacing (a .rows)) 374 n)))
-full c =
-    let r = c .before .before in
+full : (r : tie.At-rows Inv-loop μ-loop Inv-loop2 μ-loop2 Inv-rows μ-rows) →
+    (let a = entry r .args in
+    a .rows ≤ r .rows .r →
+    AddedBySteps (a .rows) (a .table .now) (a .bits .now) (replicate (positions (a .rows)) 0) (r .rows .sums))
+full r h =
     let a = entry r .args in
     let e : min (r .rows .r) (a .rows) ≡ a .rows = omega arith in
     let z = r .before .before .before .fill .ensures ∙ ap (λ (n : ℕ). replicate n 0) (entry r .pre .ready .room) in
@@ -108,7 +108,7 @@ rows-holds c =
     record {
       within = search needs;
       start = rw z (sym (rowStart-none (a .table .now)));
-      adding = added-none _ _ (λ n. rw z (timesTo-none (a .rows) (a .table .now) (a .bits .now) (across (spacing (a .rows)) 374 n)));
+      adding = added-none _ _ (λ n. rw z (timesStepped-none (spacing (a .rows)) (a .table .now) (a .bits .now) (across (spacing (a .rows)) 374 n)));
       reached = omega arith;
       passed = passed-none (a .rows) (a .table .now) (a .bits .now) (a .received .now) (omega (arith, s .pre .ready .rate .few));
     }
@@ -119,7 +119,7 @@ loop-holds c =
     let a = entry r .args in
     record {
       within = search needs;
-      adding = added-none _ _ (λ n. row-none (a .rows) (a .table .now) (a .bits .now) (r .rows .s + 1) (374 * r .rows .r) (across (spacing (a .rows)) 374 n));
+      adding = added-none _ _ (λ n. rowStepped-none (spacing (a .rows)) (a .table .now) (a .bits .now) (r .rows .s + 1) (374 * r .rows .r) (across (spacing (a .rows)) 374 n));
     }
 
 add-address-requires : tie.Need-add-address-requires Inv-loop μ-loop Inv-loop2 μ-loop2 Inv-rows μ-rows
@@ -147,7 +147,7 @@ loop-again c =
     record {
       within = search needs;
       adding = added-then _ (l .loop .sums) _ _ _ _ (l .loop .inv .adding) (b .add-address .ensures)
-          (λ n. rw e (row-more (a .rows) (a .table .now) (a .bits .now) (r .rows .s + 1) (374 * r .rows .r) (across (spacing (a .rows)) 374 n) (l .loop .i)));
+          (λ n. rw e (rowStepped-more (spacing (a .rows)) (a .table .now) (a .bits .now) (r .rows .s + 1) (l .loop .i) (374 * r .rows .r) (across (spacing (a .rows)) 374 n)));
     }
 
 rows-again : tie.Need-rows-again Inv-loop μ-loop Inv-loop2 μ-loop2 Inv-rows μ-rows
@@ -165,7 +165,7 @@ rows-again c =
       within = search needs;
       start = rw g (omega (arith, rowStart-more t (r .rows .r), ap (λ (k : ℕ). getD t k 0) e));
       adding = added-then _ (r .rows .sums) _ _ _ _ (r .rows .inv .adding) (l .loop .inv .adding)
-          (λ k. timesTo-next (a .rows) t (a .bits .now) (across (spacing (a .rows)) 374 k) (r .rows .r) (r .rows .s) _ _ _ _ e f g n i);
+          (λ k. timesStepped-next (spacing (a .rows)) t (a .bits .now) (across (spacing (a .rows)) 374 k) (r .rows .r) (r .rows .s) _ _ _ _ e f g n i);
       reached = omega (arith, r .rows .inv .reached);
       passed = r .rows .inv .passed;
     }
@@ -182,7 +182,7 @@ loop2-again c =
     rw (c .next-place .ensures) (record {
       within = search needs;
       reached = omega (arith, l .loop2 .inv .reached);
-      passed = passed-more (a .rows) (a .table .now) (a .bits .now) _ (r .rows .sums) refl (full (l .before)) (a .received .now) (374 * (119 - a .rows)) (l .loop2 .last) (l .loop2 .position) (l .loop2 .place) (w .wide .result)
+      passed = passed-more (a .rows) (a .table .now) (a .bits .now) _ (r .rows .sums) (entry r .pre .ready .ok) refl (full r (l .before .if1 .left)) (a .received .now) (374 * (119 - a .rows)) (l .loop2 .last) (l .loop2 .position) (l .loop2 .place) (w .wide .result)
           (omega arith) (l .loop2 .inv .passed) (within (w .before .before) .0) (w .wide .ensures .0) (c .before .if2 .left ∙ c .before .before .wide2 .ensures .0);
     })
 
@@ -204,8 +204,10 @@ returns : tie.Need-returns Inv-loop μ-loop Inv-loop2 μ-loop2 Inv-rows μ-rows
 returns c =
     let l = c .before .rows in
     let a = entry (c .before) .args in
-    let e : l .position ≡ positions (a .rows) = omega (arith, l .inv .reached, l .inv .within) in
-    sym (lowestWrong-is (a .rows) (a .table .now) (a .bits .now) (a .received .now) (l .position) (omega arith) (l .inv .passed .right) (λ h. absurd (omega arith)))
+    let e : l .position ≡ positions (a .rows) = omega (arith, l .inv .reached, l .inv .within) in (
+      sym (lowestWrong-is (a .rows) (a .table .now) (a .bits .now) (a .received .now) (l .position) (omega arith) (l .inv .passed .right) (λ h. absurd (omega arith))),
+      full (c .before) (omega (arith, entry (c .before) .pre .ready .rate .few)),
+    )
 
 returns-2 : tie.Need-returns-2 Inv-loop μ-loop Inv-loop2 μ-loop2 Inv-rows μ-rows
 returns-2 c =
@@ -214,10 +216,12 @@ returns-2 c =
     let r = l .before .before .before in
     let a = entry r .args in
     let h = within (w .before .before) .0 in
-    let p = parity-at (a .rows) (a .table .now) (a .bits .now) _ (r .rows .sums) refl (full (l .before)) (a .received .now) (l .loop2 .last) (l .loop2 .position) (l .loop2 .place) (w .wide .result)
-    (l .loop2 .inv .passed) h (w .wide .ensures .0) .1 in
-    sym (lowestWrong-is (a .rows) (a .table .now) (a .bits .now) (a .received .now) (l .loop2 .position) (omega arith) (l .loop2 .inv .passed .right)
-    (λ _ e. c .if2 .taken (p ∙ e ∙ sym (c .before .wide2 .ensures .0))))
+    let p = parity-at (a .rows) (a .table .now) (a .bits .now) _ (r .rows .sums) (entry r .pre .ready .ok) refl (full r (l .before .if1 .left)) (a .received .now) (l .loop2 .last) (l .loop2 .position) (l .loop2 .place) (w .wide .result)
+    (l .loop2 .inv .passed) h (w .wide .ensures .0) .1 in (
+      sym (lowestWrong-is (a .rows) (a .table .now) (a .bits .now) (a .received .now) (l .loop2 .position) (omega arith) (l .loop2 .inv .passed .right)
+          (λ _ e. c .if2 .taken (p ∙ e ∙ sym (c .before .wide2 .ensures .0)))),
+      full r (l .before .if1 .left),
+    )
 
 pub lowest-wrong-spec : {M : Type 1} → statement M
 lowest-wrong-spec =

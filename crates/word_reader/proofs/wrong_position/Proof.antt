@@ -37,7 +37,7 @@ returns c =
     let u = x .expand .last .1 .0 in
     let n = b .run-bits .result in
     let z : n ≡ runBits F = b .run-bits .ensures in (
-      w .lowest-wrong .ensures
+      w .lowest-wrong .ensures .0
           ∙ ap₂ (lowestWrong (F .rows) (a .table .now)) (p .put-input .ensures ∙ ap (parityInput F) (take-lent n (runBits F) u z)) (part-rest n u ∙ ap (λ (k : ℕ). drop k u) z)
           ∙ ap (λ (v : List ℕ). lowestWrong (F .rows) (a .table .now) (parityInput F (take (runBits F) v)) (drop (runBits F) v)) (x .expand .ensures),
       x .expand .ensures,
