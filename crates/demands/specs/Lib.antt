@@ -5,3 +5,4 @@ pub mod DemandThree
 pub mod WorkedByHand
 pub mod PlanRules
 pub mod TlvRules
+pub mod ParitySteps

@@ -1,17 +1,23 @@
 -- What the change requests of document 02 ask, as statements over the definitions that the contracts of the public entries
 -- cite.
 use mathlib.Core.Path.{_≡_}
-use mathlib.Core.Bool.{true, false, _&&_}
+use mathlib.Core.Bool.{true, false, not, _&&_}
 use mathlib.Core.List.{List, [], _∷_, _++_}
 use mathlib.Core.Logic.{_↔_}
-use Prim.Native.Nat.{ℕ, _+_, _-_, _/_, _<_, _≤_}
+use Prim.Native.Nat.{ℕ, _+_, _-_, _%_, _/_, _<_, _≤_}
+use lib.Dec.{eqb}
 use lib.ListN.{length, getD, replicate}
-use Rattle.lists.specs.Count.{table, joined}
+use Rattle.lists.specs.Count.{first, table, joined}
 use Rattle.refusal.specs.Numbers.{PLAN, LENGTH, VALUE, ORDER, TOTAL, PACKET}
+use Rattle.parity_table.specs.Tables.{positions, rowStart, tableOk}
+use Rattle.ldpc.specs.Parity.{spacing, position, times}
+use Rattle.ldpc.specs.Stepping.{stepped, addressTimes, parityStepped}
+use Rattle.ldpc.specs.Columns.{across}
+use Rattle.ldpc.specs.Needs.{AddedBySteps}
 use Rattle.plan.specs.declared.Plan.{Plan}
 use Rattle.plan.specs.declared.FrameState.{FrameState}
 use Rattle.plan.specs.Records.{ofColumns, planIn}
-use Rattle.plan.specs.Rates.{rateOk, modulationOk, dataOctetsOf}
+use Rattle.plan.specs.Rates.{rateOk, rowsOf, modulationOk, dataOctetsOf}
 use Rattle.plan.specs.Plans.{groupsOk, allValuesOk, allFall, totalOk, planOk, planNumber}
 use Rattle.plan.specs.States.{opened, passed}
 use Rattle.plan_text.specs.Reading.{textNumber, planOf as planOfText}
@@ -19,8 +25,13 @@ use Rattle.run_list.specs.Listing.{refusedText, answerText}
 use Rattle.published.specs.Published.{copyNumber}
 use Rattle.packets.specs.Packets.{packNumber, unpackNumber}
 use Rattle.symbols.specs.Labels.{slotNumber as labelsNumber, slotOfLabelsNumber}
+use Rattle.codeword.specs.declared.Shape.{Shape}
+use Rattle.codeword.specs.Words.{parityInput, withParity}
+use Rattle.codeword.specs.Reading.{runIn, parityIn, wrongPosition}
+use Rattle.slot.specs.Slots.{slotShape}
 use Rattle.slot.specs.Calls.{codeAnswer, readAnswer as readSlotAnswer, checkNumber}
 use Rattle.stream.specs.SlotPackets.{codePacketsAnswer, readPacketsAnswer}
+use Rattle.tmcc.specs.Blocks.{blockRows, blockShape}
 use Rattle.frame.specs.Frames.{frameNumber, readFrameNumber}
 use Rattle.lookup.specs.Lookups.{tablesNumber, placed}
 use Rattle.tlv.specs.Packets.{packetsOk}
@@ -232,3 +243,34 @@ pub record WorkedFillers : Type 0 where
   pub carried-report : report 6 (streamBegins [] 0 2) 0 ≡ 2
   pub lent-report : report 6 (streamBegins filler 0 0) 0 ≡ 0
   pub taken : takenAfter filler 0 0 6 ≡ 4
+
+-- N3, "Show that each position stepped to is document 01's", through an address below M: bit n of a row is added there, and
+-- nothing anywhere else
+pub record SteppedThrough (rows a : ℕ) : Type 0 where
+  pub each : (n : ℕ) → stepped (spacing rows) (positions rows) a n ≡ position rows a n
+  pub there : (row : List ℕ) (n : ℕ) → n < 374 → addressTimes (spacing rows) row a (position rows a n) ≡ getD row n 0
+  pub elsewhere : (row : List ℕ) (j : ℕ) → ((n : ℕ) → n < 374 → position rows a n ≡ j → ⊥) → addressTimes (spacing rows) row a j ≡ 0
+  -- a step for each of a row's 374 bits leads back to the address
+  pub round : stepped (spacing rows) (positions rows) a 374 ≡ a
+
+-- "step by q and subtract M when it is reached, in coding and checking": of words of one shape, under a table
+pub record WordStepped (F : Shape) (t : List ℕ) : Type 0 where
+  -- every address of every row
+  pub addresses : (r i : ℕ) → r < F .rows → i < getD t (rowStart t r) 0 → SteppedThrough (F .rows) (getD t (rowStart t r + 1 + i) 0)
+  -- what the coder and the check leave in the columns: at the place of each position, what document 01 adds there
+  pub sums :
+      (u found columns : List ℕ) → length found ≡ positions (F .rows) → AddedBySteps (F .rows) t u found columns
+      → (p : ℕ) → p < positions (F .rows)
+      → getD columns (across 374 (spacing (F .rows)) p) 0 % 2 ≡ (getD found (across 374 (spacing (F .rows)) p) 0 + times (F .rows) t u p) % 2
+  -- the parity that is sent, and the position that the check answers
+  pub coded : (d : List ℕ) → withParity F t d ≡ d ++ parityStepped (F .rows) t (parityInput F d)
+  pub checked :
+      (c : List ℕ)
+      → wrongPosition F t c
+      ≡ first (positions (F .rows)) (λ j. not (eqb (getD (parityStepped (F .rows) t (parityInput F (runIn F c))) j 0) (getD (parityIn F c) j 0)))
+
+-- "for every accepted table", "TMCC too": slots of every rate, and TMCC blocks
+abbrev pub PositionsStepped : Type 0
+PositionsStepped =
+    ((rate : ℕ) (t : List ℕ) → tableOk (rowsOf rate) t ≡ true → WordStepped (slotShape (rowsOf rate)) t)
+    × ((t : List ℕ) → tableOk blockRows t ≡ true → WordStepped blockShape t)
