@@ -1,18 +1,20 @@
 -- Laws of stepping: the position stepped to is document 01's, and in the columns it is the place behind.
 use mathlib.Core.Path.{_≡_, sym, ap, _∙_}
+use mathlib.Core.Bool.{Bool}
 use Prim.Native.Nat.{ℕ, zero, suc, _+_, _*_, _-_, _%_, _/_, _<_, _≤_}
 use native.Mathlib.Nat.{mod-lt, mod-eq-of-lt, mul-add-mod-self-left, div-add-mod, div-lt-iff-lt-mul, mul-add, mul-le-mul-left}
 use native.Mathlib.Decide.{decLt}
 use native.Mathlib.Omega.{arith}
 use borrow.Author.Tests.{le-leb, lt-leb}
+use Rattle.lists.specs.Choice.{pick}
 use Rattle.ldpc.specs.Stepping.{stepOn, stepped}
 
 -- a step, by whether M is reached
-stepOn-less : (q m p : ℕ) → p + q < m → stepOn q m p ≡ p + q
-stepOn-less q m p h = rw (lt-leb m (p + q) h)
-
 stepOn-reached : (q m p : ℕ) → m ≤ p + q → stepOn q m p ≡ p + q - m
-stepOn-reached q m p h = rw (le-leb m (p + q) h)
+stepOn-reached q m p h = ap (λ (t : Bool). pick t (p + q - m) (p + q)) (le-leb m (p + q) h)
+
+stepOn-less : (q m p : ℕ) → p + q < m → stepOn q m p ≡ p + q
+stepOn-less q m p h = ap (λ (t : Bool). pick t (p + q - m) (p + q)) (lt-leb m (p + q) h)
 
 -- a step by no more than m is a remainder
 stepOn-mod : (q m p : ℕ) → q ≤ m → p < m → stepOn q m p ≡ (p + q) % m

@@ -182,7 +182,7 @@ loop2-again c =
     rw (c .next-place .ensures) (record {
       within = search needs;
       reached = omega (arith, l .loop2 .inv .reached);
-      passed = passed-more (a .rows) (a .table .now) (a .bits .now) _ (r .rows .sums) (entry r .pre .ready .ok) refl (full r (l .before .if1 .left)) (a .received .now) (374 * (119 - a .rows)) (l .loop2 .last) (l .loop2 .position) (l .loop2 .place) (w .wide .result)
+      passed = passed-more (a .rows) (a .table .now) (a .bits .now) _ (r .rows .sums) (entry r .pre .ready .ok) refl (full r (l .before .if1 .left)) (a .received .now) _ (l .loop2 .last) (l .loop2 .position) (l .loop2 .place) (w .wide .result)
           (omega arith) (l .loop2 .inv .passed) (within (w .before .before) .0) (w .wide .ensures .0) (c .before .if2 .left ∙ c .before .before .wide2 .ensures .0);
     })
 
