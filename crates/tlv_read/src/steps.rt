@@ -1,10 +1,10 @@
 // One step of reading, and steps until one stops.
 ghost use mathlib.Core.Bool.{false};
 ghost use mathlib.Core.Path.{_≡_};
-ghost use Prim.Native.Nat.{_*_};
+ghost use Prim.Native.Nat.{_+_, _*_, _<_};
 ghost use Rattle.tlv.specs.Packets.{octets};
-ghost use Rattle.tlv.specs.Read.{step, read};
-ghost use Rattle.tlv_read.specs.Needs.{Whole, WholeNeeds, Lent, ReadNeeds, ReadIs, moved, keptOf};
+ghost use Rattle.tlv.specs.Read.{onFrom, step, read};
+ghost use Rattle.tlv_read.specs.Needs.{Reported, Whole, WholeNeeds, Lent, ReadNeeds, ReadIs, moved, keptOf};
 use crate::slots::first_lost;
 use crate::slots::next_begin;
 use tlv::ReadAnswer;
@@ -18,9 +18,12 @@ pub struct Move {
     pub size: usize,
 }
 
-fn goes_on(at: usize) -> Move
-    ensures { λ r. ⌜ (r .there ≡ false) × (r .ends ≡ false) × (r .at ≡ at) × (r .size ≡ 0) ⌝ }
+// Where the rest of a slot is lost, reading goes on at the next beginning that is reported behind it.
+fn behind(size: usize, count: usize, lost: &[u8], begins: &[u16], slot: usize) -> Move
+    requires { ⌜ Reported size count (now lost) (now begins) × (slot < 9223372036854775808) ⌝ }
+    ensures { λ r. ⌜ (r .there ≡ false) × (r .ends ≡ false) × (r .at ≡ onFrom size count (now (lost .entry)) (now (begins .entry)) (slot + 1)) × (r .size ≡ 0) ⌝ }
 {
+    let at = next_begin(size, count, lost, begins, slot + 1);
     Move {
         there: false,
         ends: false,
@@ -44,7 +47,7 @@ fn whole(
 {
     let gone = first_lost(size, count, lost, slot, to);
     if gone < count {
-        return goes_on(next_begin(size, count, lost, begins, gone + 1));
+        return behind(size, count, lost, begins, gone);
     }
     let past = size * count < to;
     Move {
@@ -94,7 +97,7 @@ pub fn step_at(
         return head;
     }
     if !tlv::head_ok(slots, p) {
-        return goes_on(next_begin(size, count, lost, begins, slot + 1));
+        return behind(size, count, lost, begins, slot);
     }
     let long = tlv::size_at(slots, p);
     let body = whole(size, count, lost, begins, slot, p, p + long);
@@ -102,7 +105,7 @@ pub fn step_at(
         return body;
     }
     if !tlv::body_ok(slots, p, long) {
-        return goes_on(next_begin(size, count, lost, begins, slot + 1));
+        return behind(size, count, lost, begins, slot);
     }
     Move {
         there: false,

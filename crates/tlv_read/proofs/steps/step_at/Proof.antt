@@ -1,6 +1,6 @@
 -- `tlv_read::steps::step_at`: each way out, by what was found on the way to it.
-use mathlib.Core.Path.{_≡_, refl, sym, _∙_}
-use Prim.Native.Nat.{_/_}
+use mathlib.Core.Path.{refl, sym, _∙_}
+use Prim.Native.Nat.{_/_, _<_}
 use native.Mathlib.Nat.{div-le-self}
 use native.Mathlib.Omega.{arith}
 use borrow.Author.Needs.{needs}
@@ -36,15 +36,19 @@ returns-2 c =
 head-ok-requires : tie.Need-head-ok-requires
 head-ok-requires c κs = omega (arith, c .before .before .before .before .before .before .before .pre .long, c .before .before .whole .ensures .fits (not-false _ (c .if2 .left)))
 
-add-next-begin : tie.Need-add-next-begin
-add-next-begin c = let s = c .before .before .before .before .before .before .before .before .before in omega (arith, s .pre .within, s .pre .reported .marked .room, div-le-self (s .args .p) (s .args .size))
+-- the number of a slot is no larger than a position
+slot-small : (s : tie.Start) → s .args .p / s .args .size < 9223372036854775808
+slot-small s = omega (arith, s .pre .within, s .pre .reported .marked .room, div-le-self (s .args .p) (s .args .size))
+
+behind-requires : tie.Need-behind-requires
+behind-requires c κs = let s = c .before .before .before .before .before .before .before .before .before in (s .pre .reported, slot-small s)
 
 returns-3 : tie.Need-returns-3
 returns-3 c =
-    let s = c .before .before .before .before .before .before .before .before .before .before .before in
-    let e = c .goes-on .ensures in
-    wrong-head _ _ _ _ (octets (s .args .slots .now)) (s .args .p) (s .args .p / s .args .size) refl _ _ _ (e .1) (e .2 ∙ c .before .next-begin .ensures) (e .3)
-    (head-there (c .before .before .before .before)) (sym (c .before .before .before .head-ok .ensures) ∙ not-true _ (c .before .before .if3 .taken))
+    let s = c .before .before .before .before .before .before .before .before .before .before in
+    let e = c .behind .ensures in
+    wrong-head _ _ _ _ (octets (s .args .slots .now)) (s .args .p) (s .args .p / s .args .size) refl _ _ _ (e .1) (e .2) (e .3)
+    (head-there (c .before .before .before)) (sym (c .before .before .head-ok .ensures) ∙ not-true _ (c .before .if3 .taken))
 
 size-at-requires : tie.Need-size-at-requires
 size-at-requires c κs = omega (arith, c .before .before .before .before .before .before .before .before .before .pre .long, c .before .before .before .before .whole .ensures .fits (not-false _ (c .before .before .if2 .left)))
@@ -62,15 +66,15 @@ body-ok-requires c κs =
     let z = c .before .before .before .size-at .ensures .0 in
     (omega (arith, s .pre .long), z, omega (arith, size-least (octets (s .args .slots .now)) (s .args .p)))
 
-add-next-begin-2 : tie.Need-add-next-begin-2
-add-next-begin-2 c = let s = c .before .before .before .before .before .before .before .before .before .before .before .before .before .before .before in omega (arith, s .pre .within, s .pre .reported .marked .room, div-le-self (s .args .p) (s .args .size))
+behind-requires-2 : tie.Need-behind-requires-2
+behind-requires-2 c κs = let s = c .before .before .before .before .before .before .before .before .before .before .before .before .before .before .before in (s .pre .reported, slot-small s)
 
 returns-5 : tie.Need-returns-5
 returns-5 c =
-    let s = c .before .before .before .before .before .before .before .before .before .before .before .before .before .before .before .before .before in
-    let e = c .goes-on2 .ensures in
-    wrong-body _ _ _ _ (octets (s .args .slots .now)) (s .args .p) (s .args .p / s .args .size) refl _ _ _ (e .1) (e .2 ∙ c .before .next-begin2 .ensures) (e .3)
-    (body-there (c .before .before .before .before)) (sym (c .before .before .before .body-ok .ensures) ∙ not-true _ (c .before .before .if5 .taken))
+    let s = c .before .before .before .before .before .before .before .before .before .before .before .before .before .before .before .before in
+    let e = c .behind2 .ensures in
+    wrong-body _ _ _ _ (octets (s .args .slots .now)) (s .args .p) (s .args .p / s .args .size) refl _ _ _ (e .1) (e .2) (e .3)
+    (body-there (c .before .before .before)) (sym (c .before .before .body-ok .ensures) ∙ not-true _ (c .before .if5 .taken))
 
 add-t11 : tie.Need-add-t11
 add-t11 c =
@@ -95,7 +99,7 @@ returns-6 c =
 pub step-at-spec : {M : Type 1} → statement M
 step-at-spec =
     tie.close
-    (tie.spec returns (λ c. search needs) (λ c. search needs) (λ c κs. search needs) returns-2 head-ok-requires add-next-begin
-    (λ c κs. search needs) (λ c κs. search needs) returns-3 size-at-requires (λ c. search needs) (λ c κs. search needs) returns-4
-    body-ok-requires add-next-begin-2 (λ c κs. search needs) (λ c κs. search needs) returns-5 add-t11 add-kept shared-slice-read-kept
+    (tie.spec returns (λ c. search needs) (λ c. search needs) (λ c κs. search needs) returns-2 head-ok-requires behind-requires
+    returns-3 size-at-requires (λ c. search needs) (λ c κs. search needs) returns-4
+    body-ok-requires behind-requires-2 returns-5 add-t11 add-kept shared-slice-read-kept
     (λ c κs. search needs) returns-6)
