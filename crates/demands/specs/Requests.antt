@@ -11,9 +11,9 @@ use Rattle.lists.specs.Count.{first, table, joined}
 use Rattle.refusal.specs.Numbers.{PLAN, LENGTH, VALUE, ORDER, TOTAL, PACKET}
 use Rattle.parity_table.specs.Tables.{positions, rowStart, tableOk}
 use Rattle.ldpc.specs.Parity.{spacing, position, times}
-use Rattle.ldpc.specs.Stepping.{stepped, addressTimes, parityStepped}
-use Rattle.ldpc.specs.Columns.{across}
-use Rattle.ldpc.specs.Needs.{AddedBySteps}
+use Rattle.ldpc.specs.Stepping.{stepped, parityStepped}
+use Rattle.ldpc.specs.Columns.{sumAt}
+use Rattle.ldpc.specs.Needs.{AddedThrough, AddedBySteps}
 use Rattle.plan.specs.declared.Plan.{Plan}
 use Rattle.plan.specs.declared.FrameState.{FrameState}
 use Rattle.plan.specs.Records.{ofColumns, planIn}
@@ -244,12 +244,22 @@ pub record WorkedFillers : Type 0 where
   pub lent-report : report 6 (streamBegins filler 0 0) 0 ≡ 0
   pub taken : takenAfter filler 0 0 6 ≡ 4
 
--- N3, "Show that each position stepped to is document 01's", through an address below M: bit n of a row is added there, and
--- nothing anywhere else
+-- N3, what a row's bits that are added through an address do to the sums: bit n is added at document 01's position, and nothing
+-- is anywhere else
+pub record AddedWhere (rows a : ℕ) (row found columns : List ℕ) : Type 0 where
+  pub there :
+      (n : ℕ) → n < 374
+      → sumAt (spacing rows) columns (position rows a n) % 2 ≡ (sumAt (spacing rows) found (position rows a n) + getD row n 0) % 2
+  pub elsewhere :
+      (p : ℕ) → p < positions rows → ((n : ℕ) → n < 374 → position rows a n ≡ p → ⊥)
+      → sumAt (spacing rows) columns p % 2 ≡ sumAt (spacing rows) found p % 2
+
+-- "Show that each position stepped to is document 01's": through an address, and what is added there
 pub record SteppedThrough (rows a : ℕ) : Type 0 where
   pub each : (n : ℕ) → stepped (spacing rows) (positions rows) a n ≡ position rows a n
-  pub there : (row : List ℕ) (n : ℕ) → n < 374 → addressTimes (spacing rows) row a (position rows a n) ≡ getD row n 0
-  pub elsewhere : (row : List ℕ) (j : ℕ) → ((n : ℕ) → n < 374 → position rows a n ≡ j → ⊥) → addressTimes (spacing rows) row a j ≡ 0
+  pub adds :
+      (row found columns : List ℕ) → length found ≡ positions rows → AddedThrough (spacing rows) a row found columns
+      → AddedWhere rows a row found columns
   -- a step for each of a row's 374 bits leads back to the address
   pub round : stepped (spacing rows) (positions rows) a 374 ≡ a
 
@@ -257,11 +267,11 @@ pub record SteppedThrough (rows a : ℕ) : Type 0 where
 pub record WordStepped (F : Shape) (t : List ℕ) : Type 0 where
   -- every address of every row
   pub addresses : (r i : ℕ) → r < F .rows → i < getD t (rowStart t r) 0 → SteppedThrough (F .rows) (getD t (rowStart t r + 1 + i) 0)
-  -- what the coder and the check leave in the columns: at the place of each position, what document 01 adds there
+  -- what the coder and the check leave in the columns: the sum of each position has what document 01 adds there
   pub sums :
       (u found columns : List ℕ) → length found ≡ positions (F .rows) → AddedBySteps (F .rows) t u found columns
       → (p : ℕ) → p < positions (F .rows)
-      → getD columns (across 374 (spacing (F .rows)) p) 0 % 2 ≡ (getD found (across 374 (spacing (F .rows)) p) 0 + times (F .rows) t u p) % 2
+      → sumAt (spacing (F .rows)) columns p % 2 ≡ (sumAt (spacing (F .rows)) found p + times (F .rows) t u p) % 2
   -- the parity that is sent, and the position that the check answers
   pub coded : (d : List ℕ) → withParity F t d ≡ d ++ parityStepped (F .rows) t (parityInput F d)
   pub checked :

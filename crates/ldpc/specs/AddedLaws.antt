@@ -11,7 +11,7 @@ use Rattle.parity_table.specs.Tables.{positions}
 use Rattle.ldpc.specs.Parity.{spacing, running}
 use Rattle.ldpc.specs.Stepping.{timesStepped, parityStepped}
 use Rattle.ldpc.specs.SteppedParityLaws.{parityStepped-is}
-use Rattle.ldpc.specs.Columns.{across}
+use Rattle.ldpc.specs.Columns.{across, sumAt}
 use Rattle.ldpc.specs.ColumnLaws.{place-below, across-back}
 use Rattle.ldpc.specs.Needs.{Added, AddedBySteps}
 
@@ -31,9 +31,9 @@ added-then s₀ s s′ f g h a b e = record {
 
 -- in the columns, the sum of a position has added to it what the position is reached by
 pub added-at : (q : ℕ) (s₀ s : List ℕ) (f : ℕ → ℕ) → length s₀ ≡ 374 * q → Added s₀ s (λ n. f (across q 374 n))
-    → (p : ℕ) → p < 374 * q → getD s (across 374 q p) 0 % 2 ≡ (getD s₀ (across 374 q p) 0 + f p) % 2
+    → (p : ℕ) → p < 374 * q → sumAt q s p % 2 ≡ (sumAt q s₀ p + f p) % 2
 added-at q s₀ s f l a p h =
-    a .at (across 374 q p) (omega (arith, place-below q p h)) ∙ ap (λ (k : ℕ). (getD s₀ (across 374 q p) 0 + f k) % 2) (across-back q p h)
+    a .at (across 374 q p) (omega (arith, place-below q p h)) ∙ ap (λ (k : ℕ). (sumAt q s₀ p + f k) % 2) (across-back q p h)
 
 -- the running sum, one position on
 pub carry-more : (last x : ℕ) (f : ℕ → ℕ) (j : ℕ) → last ≡ sum j f % 2 → x % 2 ≡ f j % 2 → (last + x) % 2 ≡ sum (j + 1) f % 2
@@ -43,13 +43,13 @@ carry-more last x f j e h = omega (arith, sum-more j f)
 module _ (rows : ℕ) (t u columns₀ columns : List ℕ) (e : columns₀ ≡ replicate (positions rows) 0)
     (a : AddedBySteps rows t u columns₀ columns) where
   -- the sum of a position
-  pub sum-at : (p : ℕ) → p < positions rows → getD columns (across 374 (spacing rows) p) 0 % 2 ≡ timesStepped (spacing rows) t u rows p % 2
+  pub sum-at : (p : ℕ) → p < positions rows → sumAt (spacing rows) columns p % 2 ≡ timesStepped (spacing rows) t u rows p % 2
   sum-at p h =
       let l : length columns₀ ≡ positions rows = rw e (length-replicate {A = ℕ} (positions rows) 0) in
-      let z : getD columns₀ (across 374 (spacing rows) p) 0 ≡ 0 = rw e (getD-replicate {A = ℕ} (positions rows) _ 0 0 (place-below (spacing rows) p h)) in
+      let z : sumAt (spacing rows) columns₀ p ≡ 0 = rw e (getD-replicate {A = ℕ} (positions rows) _ 0 0 (place-below (spacing rows) p h)) in
       added-at (spacing rows) columns₀ columns (timesStepped (spacing rows) t u rows) l a p h ∙ rw (z, zero-add)
 
   -- their running sums are the parity
-  pub coded : (sums : List ℕ) → sums ≡ table (positions rows) (running (λ p. getD columns (across 374 (spacing rows) p) 0)) → sums ≡ parityStepped rows t u
+  pub coded : (sums : List ℕ) → sums ≡ table (positions rows) (running (sumAt (spacing rows) columns)) → sums ≡ parityStepped rows t u
   coded sums r =
-      r ∙ parityStepped-is rows t u (λ p. getD columns (across 374 (spacing rows) p) 0) sum-at
+      r ∙ parityStepped-is rows t u (sumAt (spacing rows) columns) sum-at

@@ -12,15 +12,11 @@ use Rattle.lists.specs.Count.{sum}
 use Rattle.lists.specs.CountLaws.{sum-none, table-is}
 use Rattle.ldpc.specs.Parity.{running}
 use Rattle.ldpc.specs.ParityLaws.{running-sum}
-use Rattle.ldpc.specs.Columns.{across}
+use Rattle.ldpc.specs.Columns.{across, sumAt}
 use Rattle.ldpc.specs.ColumnLaws.{across-at, across-below}
 use Rattle.ldpc.specs.AddedLaws.{carry-more}
 use Rattle.ldpc.proofs.run_sums.Statement.{statement}
 use Rattle.ldpc.proofs.run_sums.Tie as tie
-
--- the sum of a position, in the columns
-abbrev sumAt : ℕ → List ℕ → ℕ → ℕ
-sumAt q columns p = getD columns (across 374 q p) 0
 
 -- the positions passed
 record Run (q : ℕ) (columns sums : List ℕ) (last position : ℕ) : Type 0 where
