@@ -1,15 +1,14 @@
 -- Laws of sums in columns: where a position stands, what one address adds to its column and to the others.
 use mathlib.Core.Path.{_≡_, refl, sym, ap, ap₂, _∙_}
 use mathlib.Core.List.{List, _++_}
-use Prim.Native.Nat.{ℕ, zero, suc, _+_, _*_, _-_, _%_, _/_, _<_, _≤_}
+use Prim.Native.Nat.{ℕ, _+_, _*_, _-_, _%_, _/_, _<_, _≤_}
 use native.Mathlib.Nat.{mod-lt, mod-eq-of-lt, div-eq-of-lt, mul-add-mod-self-left, mul-add-div, div-add-mod, div-lt-iff-lt-mul, mul-add, mul-le-mul-left}
-use native.Mathlib.Decide.{ℕ-discrete, decLt}
+use native.Mathlib.Decide.{decLt}
 use native.Mathlib.Omega.{arith}
 use borrow.Author.Tests.{eq-eqb, ne-eqb}
 use lib.ListN.{length, getD, take, drop, length-drop, List·getD-append}
 use lib.Seq.{length-take-le, getD-take, getD-drop, getD-append-add}
-use Rattle.lists.specs.Count.{sum}
-use Rattle.lists.specs.CountLaws.{sum-each}
+use Rattle.lists.specs.CountLaws.{sum-each, sum-only}
 use Rattle.lists.specs.Parts.{put}
 use Rattle.ldpc.specs.Stepping.{stepped, addressTimes}
 use Rattle.ldpc.specs.StepLaws.{stepped-mod, turn-below, stepped-column}
@@ -50,18 +49,6 @@ across-same q x y u v hu hv e =
     let b = mul-add-div z y v in
     let d = ap (λ (n : ℕ). n / q) e in
     (omega (arith, div-eq-of-lt hu, div-eq-of-lt hv), r)
-
--- a sum of which only term k is not 0
-sum-only : (n k : ℕ) (f : ℕ → ℕ) → k < n → ((i : ℕ) → i < n → (i ≡ k → ⊥) → f i ≡ 0) → sum n f ≡ f k
-unfolding sum
-sum-only zero k f h z = absurd (omega arith)
-sum-only (suc n) k f h z = go (ℕ-discrete k n) (λ l. sum-only n k f l (λ i j. z i (omega arith)))
-  where
-    go : Dec (k ≡ n) → (k < n → sum n f ≡ f k) → sum n f + f n ≡ f k
-    go (yes e) _ =
-        let s : sum n f ≡ n * 0 = sum-each n 0 f (λ i l. z i (omega arith) (λ d. absurd (omega arith))) in
-        rw e (omega arith)
-    go (no d) below = omega (arith, below (omega arith), z n (omega arith) (λ e. d (sym e)))
 
 -- what stands behind the first n
 getD-behind : (p r : List ℕ) (n k : ℕ) → length p ≡ n → getD (p ++ r) (n + k) 0 ≡ getD r k 0

@@ -54,6 +54,18 @@ unfolding sum
 sum-each zero w f h = omega arith
 sum-each (suc n) w f h = let e = sum-each n w f (λ k l. h k (omega arith)) in let d = h n (omega arith) in omega (arith, suc-mul n w)
 
+-- a sum of which only term k is not 0
+pub sum-only : (n k : ℕ) (f : ℕ → ℕ) → k < n → ((i : ℕ) → i < n → (i ≡ k → ⊥) → f i ≡ 0) → sum n f ≡ f k
+unfolding sum
+sum-only zero k f h z = absurd (omega arith)
+sum-only (suc n) k f h z = go (ℕ-discrete k n) (λ l. sum-only n k f l (λ i j. z i (omega arith)))
+  where
+    go : Dec (k ≡ n) → (k < n → sum n f ≡ f k) → sum n f + f n ≡ f k
+    go (yes e) _ =
+        let s : sum n f ≡ n * 0 = sum-each n 0 f (λ i l. z i (omega arith) (λ d. absurd (omega arith))) in
+        rw e (omega arith)
+    go (no d) below = omega (arith, below (omega arith), z n (omega arith) (λ e. d (sym e)))
+
 pub every-none : (f : ℕ → Bool) → every 0 f ≡ true
 unfolding every
 every-none f = refl
