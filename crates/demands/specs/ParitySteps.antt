@@ -2,7 +2,7 @@
 use mathlib.Core.Path.{_≡_, refl, sym, ap, _∙_}
 use mathlib.Core.Bool.{true, not}
 use mathlib.Core.List.{List, _++_}
-use Prim.Native.Nat.{ℕ, _+_, _%_, _<_}
+use Prim.Native.Nat.{ℕ, _+_, _%_, _/_, _<_}
 use native.Mathlib.Nat.{add-mod-right, mod-lt, mod-eq-of-lt}
 use native.Mathlib.Omega.{arith}
 use lib.Dec.{eqb}
@@ -12,9 +12,10 @@ use Rattle.parity_table.specs.Tables.{positions, rowStart, tableOk}
 use Rattle.parity_table.specs.TableLaws.{row-at}
 use Rattle.ldpc.specs.Parity.{spacing, position}
 use Rattle.ldpc.specs.Stepping.{stepped, addressTimes, timesStepped}
+use Rattle.ldpc.specs.StepLaws.{stepped-column}
 use Rattle.ldpc.specs.SteppedParityLaws.{stepped-position, times-stepped, parity-stepped}
 use Rattle.ldpc.specs.Columns.{sumAt}
-use Rattle.ldpc.specs.ColumnLaws.{address-stepped, address-nowhere}
+use Rattle.ldpc.specs.ColumnLaws.{across-at, address-stepped, address-nowhere}
 use Rattle.ldpc.specs.AddedLaws.{added-at}
 use Rattle.ldpc.specs.Needs.{AddedThrough}
 use Rattle.parity_check.specs.Check.{lowestWrong}
@@ -43,10 +44,14 @@ added-where rows a h row found columns l s =
 
 stepped-through : (rows a : ℕ) → a < positions rows → SteppedThrough rows a
 stepped-through rows a h =
+    let z : 0 < spacing rows = omega arith in
     let e : (n : ℕ) → stepped (spacing rows) (positions rows) a n ≡ position rows a n = stepped-position rows a h in
     record {
       each = e;
       adds = added-where rows a h;
+      place = λ n.
+          rw (stepped-column (spacing rows) a z h n)
+          (across-at 374 (spacing rows) (stepped 1 374 (a / spacing rows) n) (a % spacing rows) (mod-lt a z));
       round = e 374 ∙ add-mod-right a (positions rows) ∙ mod-eq-of-lt h;
     }
 

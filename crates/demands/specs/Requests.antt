@@ -4,7 +4,7 @@ use mathlib.Core.Path.{_≡_}
 use mathlib.Core.Bool.{true, false, not, _&&_}
 use mathlib.Core.List.{List, [], _∷_, _++_}
 use mathlib.Core.Logic.{_↔_}
-use Prim.Native.Nat.{ℕ, _+_, _-_, _%_, _/_, _<_, _≤_}
+use Prim.Native.Nat.{ℕ, _+_, _*_, _-_, _%_, _/_, _<_, _≤_}
 use lib.Dec.{eqb}
 use lib.ListN.{length, getD, replicate}
 use Rattle.lists.specs.Count.{first, table, joined}
@@ -12,7 +12,7 @@ use Rattle.refusal.specs.Numbers.{PLAN, LENGTH, VALUE, ORDER, TOTAL, PACKET}
 use Rattle.parity_table.specs.Tables.{positions, rowStart, tableOk}
 use Rattle.ldpc.specs.Parity.{spacing, position, times}
 use Rattle.ldpc.specs.Stepping.{stepped, parityStepped}
-use Rattle.ldpc.specs.Columns.{sumAt}
+use Rattle.ldpc.specs.Columns.{across, sumAt}
 use Rattle.ldpc.specs.Needs.{AddedThrough, AddedBySteps}
 use Rattle.plan.specs.declared.Plan.{Plan}
 use Rattle.plan.specs.declared.FrameState.{FrameState}
@@ -260,6 +260,8 @@ pub record SteppedThrough (rows a : ℕ) : Type 0 where
   pub adds :
       (row found columns : List ℕ) → length found ≡ positions rows → AddedThrough (spacing rows) a row found columns
       → AddedWhere rows a row found columns
+  -- in the columns a step is to the place behind, and behind the last place of the column to its first
+  pub place : (n : ℕ) → across 374 (spacing rows) (stepped (spacing rows) (positions rows) a n) ≡ 374 * (a % spacing rows) + stepped 1 374 (a / spacing rows) n
   -- a step for each of a row's 374 bits leads back to the address
   pub round : stepped (spacing rows) (positions rows) a 374 ≡ a
 

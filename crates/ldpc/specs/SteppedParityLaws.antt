@@ -10,7 +10,7 @@ use Rattle.lists.specs.Count.{table}
 use Rattle.lists.specs.CountLaws.{sum-none, sum-more, sum-same, sum-add, sum-each, table-same}
 use Rattle.lists.specs.Parts.{part}
 use Rattle.parity_table.specs.Tables.{positions, rowStart, tableOk}
-use Rattle.parity_table.specs.TableLaws.{Row, row-at}
+use Rattle.parity_table.specs.TableLaws.{row-at}
 use Rattle.ldpc.specs.Parity.{spacing, position, bitTimes, rowTimes, timesTo, times, running, parityOf}
 use Rattle.ldpc.specs.ParityLaws.{bitTimes-none, bitTimes-more, running-same}
 use Rattle.ldpc.specs.Stepping.{stepped, addressTimes, rowStepped, timesStepped, parityStepped}
@@ -62,7 +62,7 @@ module _ (rows : ℕ) (t u : List ℕ) (from base j : ℕ) where
   unfolding rowTimes
   no-address = sum-each 374 0 _ (λ n _. bitTimes-none rows t from n (getD u (base + n) 0) j) ∙ omega arith
 
-  pub row-stepped : (c : ℕ) → ((i : ℕ) → i < c → getD t (from + i) 0 < positions rows) → rowStepped (spacing rows) t u from c base j ≡ rowTimes rows t u from c base 374 j
+  row-stepped : (c : ℕ) → ((i : ℕ) → i < c → getD t (from + i) 0 < positions rows) → rowStepped (spacing rows) t u from c base j ≡ rowTimes rows t u from c base 374 j
   row-stepped zero below = rowStepped-none (spacing rows) t u from base j ∙ sym no-address
   row-stepped (suc c) below =
       let e : suc c ≡ c + 1 = omega arith in
@@ -74,9 +74,10 @@ module _ (rows : ℕ) (t u : List ℕ) (ok : tableOk rows t ≡ true) where
   pub times-stepped : (j : ℕ) → timesStepped (spacing rows) t u rows j ≡ times rows t u j
   unfolding timesStepped timesTo
   times-stepped j =
-      sum-same rows _ _ (λ r h. let w : Row (positions rows) t (rowStart t r) = row-at rows t ok r (rowStart t r) h refl in row-stepped rows t u (rowStart t r + 1) (374 * r) j (getD t (rowStart t r) 0) (w .below))
+      sum-same rows _ _ (λ r h.
+      row-stepped rows t u (rowStart t r + 1) (374 * r) j (getD t (rowStart t r) 0) (row-at rows t ok r (rowStart t r) h refl .below))
 
   -- and of the parity
   pub parity-stepped : parityStepped rows t u ≡ parityOf rows t u
-  unfolding parityStepped parityOf
-  parity-stepped = table-same (positions rows) _ _ (λ j _. running-same (timesStepped (spacing rows) t u rows) (times rows t u) j (λ k _. ap (λ (x : ℕ). x % 2) (times-stepped k)))
+  unfolding parityOf
+  parity-stepped = sym (parityStepped-is rows t u (times rows t u) (λ p _. ap (λ (x : ℕ). x % 2) (sym (times-stepped p))))

@@ -23,11 +23,12 @@ stepped q m a (suc n) = stepOn q m (stepped q m a n)
 unfoldable pub addressTimes : ℕ → List ℕ → ℕ → ℕ → ℕ
 addressTimes q row a j = sum 374 (λ n. pick (eqb (stepped q (374 * q) a n) j) (getD row n 0) 0)
 
--- through the c addresses of t from `from` on, the row's bits standing in u from base on
+-- how often a row's bits, those of u from base on, reach it through the c addresses of t from `from` on ("for each address of
+-- row r")
 unfoldable pub rowStepped : ℕ → List ℕ → List ℕ → ℕ → ℕ → ℕ → ℕ → ℕ
 rowStepped q t u from c base j = sum c (λ i. addressTimes q (part base (base + 374) u) (getD t (from + i) 0) j)
 
--- how often the bits of the first n rows of u do, each row from its own addresses
+-- how often the bits of the first n rows reach it, each row's through its own addresses
 unfoldable pub timesStepped : ℕ → List ℕ → List ℕ → ℕ → ℕ → ℕ
 timesStepped q t u n j = sum n (λ r. rowStepped q t u (rowStart t r + 1) (getD t (rowStart t r) 0) (374 * r) j)
 
