@@ -98,7 +98,7 @@ module _ (q a : ℕ) (z : 0 < q) (h : a < 374 * q) where
   place n = stepped-mod 1 374 (a / q) (omega arith) (turn-below q a z h) n ∙ ap (λ (k : ℕ). (a / q + k) % 374) (omega arith)
 
   -- the one bit that reaches place j of the column
-  pub address-bit : (row : List ℕ) (j n : ℕ) → n < 374 → stepped 1 374 (a / q) n ≡ j → addressTimes q row a (q * j + a % q) ≡ getD row n 0
+  address-bit : (row : List ℕ) (j n : ℕ) → n < 374 → stepped 1 374 (a / q) n ≡ j → addressTimes q row a (q * j + a % q) ≡ getD row n 0
   unfolding addressTimes
   address-bit row j n l e =
       sum-only 374 n _ l (λ i k d. rw (ne-eqb _ (q * j + a % q) (λ (w : stepped q (374 * q) a i ≡ q * j + a % q). d (other i k (across-same q _ j _ _ (mod-lt a z) (mod-lt a z) (sym (stepped-column q a z h i) ∙ w) .0)))))
