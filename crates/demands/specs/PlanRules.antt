@@ -25,7 +25,8 @@ use Rattle.slot.specs.Calls.{dataNumber, slotNumber, codeAnswer, readNumber, re
 use Rattle.stream.specs.SlotPackets.{laidNumber, roomNumber, codePacketsAnswer, readPacketsAnswer}
 use Rattle.frame.specs.Frames.{frameNumber, readFrameNumber}
 use Rattle.lookup.specs.Lookups.{tablesNumber, placeNumber, placed}
-use Rattle.c_boundary.specs.Plans.{lengthOk, column, planOf}
+use Rattle.plan_octets.specs.Groups.{column, ofOctets}
+use Rattle.c_boundary.specs.Plans.{lengthOk, planOf}
 use Rattle.demands.specs.Requests.{PlanAccepted, PlanRefused, StateAnswers, RefusedPlanAnswered, RefusedStateAnswered, SlotZeroAnswered, RefusedTextPrinted, UnknownRefused, WorkedPlans}
 
 pub plan-accepted : PlanAccepted
@@ -117,7 +118,7 @@ unknown-refused m rate =
     }
 
 pub worked-plans : WorkedPlans
-unfolding planNumber groupsOk valuesOk fallsAfter slotsBefore sum every joined planOf lengthOk column
+unfolding planNumber groupsOk valuesOk fallsAfter slotsBefore sum every joined planOf lengthOk ofOctets column
 worked-plans =
     record {
       alone = refl;

@@ -74,7 +74,15 @@ pub put-whole : (ys xs : List ℕ) → length ys ≡ length xs → put 0 ys xs �
 unfolding put
 put-whole ys xs l = let k : length xs ≤ 0 + length ys = omega arith in rw (drop-of-length-le xs k) (append-nil ys)
 
--- three parts stored one behind the other, to the places p, q and r
+-- two parts stored one behind the other, to the places p and q
+pub two-parts : (xs a b : List ℕ) (p q : ℕ) → length xs ≡ q → p ≤ q → length a ≡ p - 0 → length b ≡ q - p → putMid p (q - p) (putMid 0 (p - 0) xs a) b ≡ a ++ b
+two-parts xs a b p q l h la lb =
+    let ab = length-append a b in
+    let m : p ≡ 0 + length a = omega arith in
+    rw (put-lent 0 p xs a (omega arith) la, put-lent p q (put 0 a xs) b h lb)
+    (ap (λ (i : ℕ). put i b (put 0 a xs)) m ∙ put-put 0 a b xs (omega arith) ∙ put-whole (a ++ b) xs (omega arith))
+
+-- three parts, to the places p, q and r
 pub three-parts : (xs a b c : List ℕ) (p q r : ℕ) → length xs ≡ r → p ≤ q → q ≤ r → length a ≡ p - 0 → length b ≡ q - p → length c ≡ r - q
     → putMid q (r - q) (putMid p (q - p) (putMid 0 (p - 0) xs a) b) c ≡ a ++ (b ++ c)
 three-parts xs a b c p q r l h k la lb lc =

@@ -11,11 +11,11 @@ use Rattle.lists.specs.Choice.{pick, andThen}
 use Rattle.lists.specs.ChoiceLaws.{and-left, and-right, then-zero, not-refused}
 use Rattle.refusal.specs.Numbers.{PLAN, VALUE, ORDER, TOTAL}
 use Rattle.lists.specs.Count.{every}
-use Rattle.lists.specs.CountLaws.{sum-none, sum-more, sum-mono, every-at}
+use Rattle.lists.specs.CountLaws.{sum-none, sum-more, sum-mono, sum-same, every-at, every-same}
 use Rattle.plan.specs.declared.Plan.{Plan}
 use Rattle.plan.specs.Rates.{rateOk, modulationOk}
 use Rattle.plan.specs.RateLaws.{between}
-use Rattle.plan.specs.Plans.{modulationOf, rateOf, slotsOf, slotsBefore, groupsOk, valuesOk, allValuesOk, allFall, totalOk, planOk, planNumber, dataSlotsOf}
+use Rattle.plan.specs.Plans.{modulationOf, rateOf, slotsOf, slotsBefore, groupsOk, valuesOk, fallsAfter, allValuesOk, allFall, totalOk, planOk, planNumber, dataSlotsOf}
 
 pub before-none : (p : Plan) → slotsBefore p 0 ≡ 0
 unfolding slotsBefore
@@ -88,6 +88,27 @@ module _ (p : Plan) where
   pub wrong-total : groupsOk p ≡ true → allValuesOk p ≡ true → allFall p ≡ true → totalOk p ≡ false → planNumber p ≡ TOTAL
   unfolding planNumber
   wrong-total g v o t = rw (g, v, o, t)
+
+-- a plan's number goes by the groups that are in use
+module _ (p q : Plan) (count : p .count ≡ q .count) (modulation : (g : ℕ) → g < p .count → modulationOf p g ≡ modulationOf q g)
+    (rate : (g : ℕ) → g < p .count → rateOf p g ≡ rateOf q g) (slots : (g : ℕ) → g < p .count → slotsOf p g ≡ slotsOf q g) where
+  values-same : (g : ℕ) → g < p .count → valuesOk p g ≡ valuesOk q g
+  unfolding valuesOk
+  values-same g h = rw (modulation g h, rate g h, slots g h)
+
+  falls-same : (g : ℕ) → g < p .count - 1 → fallsAfter p g ≡ fallsAfter q g
+  unfolding fallsAfter
+  falls-same g h =
+      rw (modulation g (omega arith), rate g (omega arith), modulation (g + 1) (omega arith), rate (g + 1) (omega arith))
+
+  before-same : slotsBefore p (p .count) ≡ slotsBefore q (p .count)
+  unfolding slotsBefore
+  before-same = sum-same (p .count) (slotsOf p) (slotsOf q) slots
+
+  pub plan-same : planNumber p ≡ planNumber q
+  unfolding planNumber groupsOk
+  plan-same =
+      rw (every-same (p .count) (valuesOk p) (valuesOk q) values-same, every-same (p .count - 1) (fallsAfter p) (fallsAfter q) falls-same, before-same, count)
 
 -- what holds of 0 and of the four refusals holds of every plan's number
 pub plan-each : (P : ℕ → Type 0) → P 0 → P PLAN → P VALUE → P ORDER → P TOTAL → (p : Plan) → P (planNumber p)

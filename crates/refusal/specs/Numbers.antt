@@ -64,3 +64,7 @@ TOTAL = 15
 -- 02, N2: "a head is wrong, a null body holds another octet, or a head or length runs past the lent packets"
 abbrev pub PACKET : ℕ
 PACKET = 16
+
+-- 02, N4: "number past the area, wrong mark, edition, sum or a filler not zero"
+abbrev pub BLOCK : ℕ
+BLOCK = 17

@@ -2,6 +2,7 @@
 mod frames;
 mod labels;
 mod packing;
+mod settings;
 mod slots;
 mod states;
 mod tables;
@@ -18,6 +19,8 @@ pub use labels::s3_tmcc_of_labels;
 pub use packing::s3_pack;
 pub use packing::s3_packets_of;
 pub use packing::s3_unpack;
+pub use settings::s3_read_settings;
+pub use settings::s3_replace_settings;
 pub use slots::s3_check_parity;
 pub use slots::s3_code_packets;
 pub use slots::s3_code_slot;

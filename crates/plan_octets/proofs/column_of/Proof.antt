@@ -1,8 +1,8 @@
--- `c_boundary::column_of`: the eight octets one by one.
+-- `plan_octets::column_of`: the eight octets one by one.
 use borrow.Author.Needs.{needs}
-use Rattle.c_boundary.specs.Plans.{column}
-use Rattle.c_boundary.proofs.plans.column_of.Statement.{statement}
-use Rattle.c_boundary.proofs.plans.column_of.Tie as tie
+use Rattle.plan_octets.specs.Groups.{column}
+use Rattle.plan_octets.proofs.column_of.Statement.{statement}
+use Rattle.plan_octets.proofs.column_of.Tie as tie
 
 returns : tie.Need-returns
 unfolding column
