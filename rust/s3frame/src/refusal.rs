@@ -75,7 +75,8 @@ mod tests {
 
     #[test]
     fn the_numbers_and_words_of_the_documents() {
-        let words = "plan dummy full length table register sync parity BCH stuff tail label value order total packet block";
+        let words =
+            "plan dummy full length table register sync parity BCH stuff tail label value order total packet block";
         let words: Vec<&str> = words.split(' ').collect();
         assert_eq!(words.len(), Refusal::ALL.len());
         for (number, word) in (1..).zip(words) {
