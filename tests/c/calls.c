@@ -763,7 +763,9 @@ static void replacing_settings(void)
     EXPECT(untouched(card, BLOCK) && untouched(card + 2 * BLOCK, sizeof card - 2 * BLOCK));
     EXPECT(REPLACE(BLOCK, 0) == S3_ACCEPTED && is_kept(card) && is_kept(card + BLOCK));
     EXPECT(REPLACE(MOST, 63) == S3_ACCEPTED && is_kept(card + 63 * BLOCK));
-    EXPECT(untouched(card + 2 * BLOCK, 61 * BLOCK) && untouched(card + MOST, sizeof card - MOST));
+    EXPECT(REPLACE(MOST, 30) == S3_ACCEPTED && is_kept(card + 30 * BLOCK));
+    EXPECT(untouched(card + 2 * BLOCK, 28 * BLOCK) && untouched(card + 31 * BLOCK, 32 * BLOCK));
+    EXPECT(untouched(card + MOST, sizeof card - MOST));
 }
 
 /* Lengths of a card, the first of which alone is right; and numbers past three blocks: 2^23 of them are 2^32 octets, which

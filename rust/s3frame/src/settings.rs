@@ -21,7 +21,8 @@ pub struct Settings {
 /// [`Refusal::Register`].
 ///
 /// ```
-/// use s3frame::{read_settings, replace_settings, Group, Modulation, Plan, Rate, Refusal, Settings, SlotSettings, TmccSettings};
+/// use s3frame::{read_settings, replace_settings, Settings};
+/// use s3frame::{Group, Modulation, Plan, Rate, Refusal, SlotSettings, TmccSettings};
 ///
 /// # fn main() -> Result<(), Refusal> {
 /// let plan = Plan::new(&[Group { modulation: Modulation::Psk8, rate: Rate::R3_4, slots: 120 }])?;
