@@ -49,7 +49,7 @@ fn word_of(random: &mut Random, block: &[u8]) -> &'static str {
     }
 }
 
-/// Whether every setting has the same octet there.
+/// Whether every block of as many groups has the same octet there: mark, edition and fillers.
 fn fixed(kept: &Settings, octet: usize) -> bool {
     octet < 5 || (6 + kept.plan.octets().len()..30).contains(&octet) || octet >= ZEROS
 }
