@@ -1,5 +1,5 @@
-/* ISDB-S3 slot framer and its reader: slots, whole frames, TMCC blocks, symbols as labels, TS packets, and
- * TLV packets.
+/* ISDB-S3 slot framer and its reader: slots, whole frames, TMCC blocks, symbols as labels, TS packets, TLV packets, and
+ * settings on a card.
  *
  * Every call but those under "What to lend" answers a number: 0 where it is accepted, else the refusal of the first test that
  * failed; s3_word gives its word. A call tests in the order in which its numbers are listed. Unless a call says otherwise, a
@@ -18,7 +18,7 @@ extern "C" {
 #endif
 
 /* The version of the library: 10,000 times the major number, 100 times the minor one, and the patch number. */
-#define S3_VERSION 400
+#define S3_VERSION 500
 
 /* A result that nobody looks at is a mistake, of which the compiler warns. */
 #if defined(__cplusplus) && __cplusplus >= 201703L
@@ -49,12 +49,13 @@ extern "C" {
 #define S3_ORDER 14u    /* the groups do not fall */
 #define S3_TOTAL 15u    /* the slots of all groups do not add to 120 */
 #define S3_PACKET 16u   /* a TLV head is wrong or a null's body is not all 0xFF, or a head or length runs past the packets */
+#define S3_BLOCK 17u    /* a card has no block of this number, or its mark, edition or sum is wrong, or a filler isn't 0 */
 
 /* The word of a number; that of 0 is "accepted", and a number that no call answers has none, "unknown". */
 S3_RESULT static inline const char *s3_word(uint32_t number) {
     static const char *const words[] = {"accepted", "plan", "dummy", "full", "length", "table", "register", "sync",
                                         "parity", "BCH", "stuff", "tail", "label", "value", "order", "total",
-                                        "packet"};
+                                        "packet", "block"};
     return number < sizeof words / sizeof *words ? words[number] : "unknown";
 }
 
@@ -72,6 +73,11 @@ S3_RESULT static inline const char *s3_word(uint32_t number) {
 #define S3_BLOCK_OCTETS 3960u     /* octets of a coded TMCC block */
 #define S3_BLOCK_LABELS 31680u    /* labels of a TMCC block */
 #define S3_TLV_NEXT 2u            /* numbers of `next` of s3_tlv_fill and s3_tlv_read */
+#define S3_SETTING_OCTETS 512u    /* octets of a setting's block on a card */
+#define S3_MOST_SETTINGS 64u      /* the most blocks of a card */
+#define S3_PLAN_OCTETS 24u        /* octets of a plan that s3_read_settings returns */
+#define S3_SETTINGS 5u            /* numbers of `settings`: groups, slot mask, slot start, TMCC mask, TMCC start */
+#define S3_REGISTERS 4u           /* numbers of `registers`: those of `settings` behind the groups */
 
 /* What stands for no octet of a slot where the TLV calls report one or take one. */
 #define S3_NO_BEGIN 65535u
@@ -283,6 +289,39 @@ S3_RESULT uint32_t s3_tlv_fill(uint32_t rate, const uint8_t *packets, size_t pac
 S3_RESULT uint32_t s3_tlv_read(uint32_t rate, const uint8_t *slots, size_t slots_length, const uint16_t *begins,
                                size_t begins_length, const uint8_t *lost, size_t lost_length, uint32_t first,
                                uint8_t *packets, size_t packets_length, uint64_t *next, size_t next_length);
+
+/* A card holds 0 to 64 settings: blocks of 512 octets, end to end, numbered from 0. Numbers of several octets have the high
+ * octet first.
+ *   octet  octets
+ *       0       4  `S3PL`
+ *       4       1  edition: 1
+ *       5       1  number of groups
+ *       6      24  eight groups: modulation, rate and slots in an octet each; zeros behind the last
+ *      30       4  mask of the slots' register, of 25 bits
+ *      34       4  start of the slots' register
+ *      38       4  mask of the TMCC blocks' register, of 15 bits
+ *      42       4  start of the TMCC blocks' register
+ *      46     464  zeros
+ *     510       2  sum of the 510 octets before it, modulo 65,536 */
+
+/* Reads a setting.
+ *   card      512 octets for each of 0 to 64 blocks
+ *   number    that of the block, from 0
+ *   plan      24 octets: the groups, three octets each, and zeros behind them; zeros with a refusal
+ *   settings  5 numbers: groups, slot mask, slot start, TMCC mask, TMCC start; zeros with a refusal
+ * Numbers: 4, 17, 1, 13, 14, 15 (the block's plan), 6 (its masks and starts). Where plan or settings has another length, that
+ * one is left as found. The first 3 * groups octets of plan are the plan as other calls take it. */
+S3_RESULT uint32_t s3_read_settings(const uint8_t *card, size_t card_length, uint32_t number, uint8_t *plan,
+                                    size_t plan_length, uint32_t *settings, size_t settings_length);
+
+/* Replaces a setting, whatever its block holds. The other blocks keep their octets.
+ *   card       512 octets for each of 0 to 64 blocks
+ *   number     that of the block, from 0
+ *   plan       three octets for each of its groups, as in other calls
+ *   registers  4 numbers: slot mask, slot start, TMCC mask, TMCC start
+ * Numbers: 4 (card, registers), 17 (the card has no block of this number), 1, 13, 14, 15, 6. */
+S3_RESULT uint32_t s3_replace_settings(uint8_t *card, size_t card_length, uint32_t number, const uint8_t *plan,
+                                       size_t plan_length, const uint32_t *registers, size_t registers_length);
 
 /* Copies the published parity table of a rate.
  *   table  T numbers

@@ -93,7 +93,8 @@ static void words(void)
     EXPECT(strcmp(s3_word(S3_BCH), "BCH") == 0 && strcmp(s3_word(S3_LABEL), "label") == 0);
     EXPECT(strcmp(s3_word(S3_VALUE), "value") == 0 && strcmp(s3_word(S3_ORDER), "order") == 0);
     EXPECT(strcmp(s3_word(S3_TOTAL), "total") == 0 && strcmp(s3_word(S3_PACKET), "packet") == 0);
-    EXPECT(strcmp(s3_word(17), "unknown") == 0 && strcmp(s3_word(UINT32_MAX), "unknown") == 0);
+    EXPECT(strcmp(s3_word(S3_BLOCK), "block") == 0);
+    EXPECT(strcmp(s3_word(18), "unknown") == 0 && strcmp(s3_word(UINT32_MAX), "unknown") == 0);
 }
 
 /* What a caller asks before it lends. */
@@ -705,6 +706,231 @@ static void refusing_to_read(void)
     EXPECT(READ_TLV(TLV_SLOTS, 3, 3, 0, TLV_SLOTS, 2) == S3_ACCEPTED);
 }
 
+/* A card with room for one block too many and an octet more. */
+enum { BLOCK = S3_SETTING_OCTETS, THREE = 3 * BLOCK, MOST = S3_MOST_SETTINGS * BLOCK };
+
+static uint8_t card[MOST + BLOCK + 1];
+static const uint32_t registers[S3_REGISTERS + 1] = {0x1234567, 0x89ABCD, 0x4321, 0x7FFF, 0};
+
+/* The block of these settings and the plan of two groups, but for its zeros; the octets add to 1,632, which is 0x660. */
+static const uint8_t kept[46] = {'S', '3', 'P', 'L', 1, 2, 4, 7, 115, 2, 3, 5, [30] = 0x01, 0x23, 0x45, 0x67,
+                                 0x00, 0x89, 0xAB, 0xCD, 0, 0, 0x43, 0x21, 0, 0, 0x7F, 0xFF};
+
+static int zeros(const uint8_t *area, size_t length)
+{
+    for (size_t i = 0; i < length; i++) {
+        if (area[i] != 0) return 0;
+    }
+    return 1;
+}
+
+static int is_kept(const uint8_t *block)
+{
+    return memcmp(block, kept, 46) == 0 && zeros(block + 46, 464) && block[510] == 0x06 && block[511] == 0x60;
+}
+
+static void put_sum(uint8_t *block)
+{
+    uint32_t sum = 0;
+    for (size_t i = 0; i < 510; i++) sum += block[i];
+    block[510] = (uint8_t)(sum >> 8);
+    block[511] = (uint8_t)sum;
+}
+
+static void put_kept(uint8_t *block)
+{
+    memset(block, 0, BLOCK);
+    memcpy(block, kept, sizeof kept);
+    put_sum(block);
+}
+
+#define REPLACE(octets, number) s3_replace_settings(card, octets, number, mixed, sizeof mixed, registers, S3_REGISTERS)
+
+static void replacing_settings(void)
+{
+    static const uint8_t eight[] = {5, 11, 5, 5, 1, 5, 4, 7, 5, 4, 6, 5, 3, 11, 5, 3, 1, 5, 2, 3, 5, 1, 1, 85};
+    memset(card, FOUND, sizeof card);
+    EXPECT(REPLACE(THREE, 1) == S3_ACCEPTED && is_kept(card + BLOCK));
+    EXPECT(untouched(card, BLOCK) && untouched(card + 2 * BLOCK, sizeof card - 2 * BLOCK));
+    /* Other plans, whatever was kept there: one of eight groups leaves none unused, one of one group leaves seven. */
+    EXPECT(s3_replace_settings(card, THREE, 1, eight, sizeof eight, registers, S3_REGISTERS) == S3_ACCEPTED);
+    EXPECT(card[BLOCK + 5] == 8 && memcmp(card + BLOCK + 6, eight, sizeof eight) == 0);
+    EXPECT(memcmp(card + BLOCK + 30, kept + 30, 16) == 0);
+    EXPECT(s3_replace_settings(card, THREE, 1, lowest, sizeof lowest, registers, S3_REGISTERS) == S3_ACCEPTED);
+    EXPECT(card[BLOCK + 5] == 1 && memcmp(card + BLOCK + 6, lowest, sizeof lowest) == 0);
+    EXPECT(zeros(card + BLOCK + 9, 21) && memcmp(card + BLOCK + 30, kept + 30, 16) == 0);
+    EXPECT(REPLACE(THREE, 1) == S3_ACCEPTED && is_kept(card + BLOCK));
+    EXPECT(untouched(card, BLOCK) && untouched(card + 2 * BLOCK, sizeof card - 2 * BLOCK));
+    EXPECT(REPLACE(BLOCK, 0) == S3_ACCEPTED && is_kept(card) && is_kept(card + BLOCK));
+    EXPECT(REPLACE(MOST, 63) == S3_ACCEPTED && is_kept(card + 63 * BLOCK));
+    EXPECT(REPLACE(MOST, 30) == S3_ACCEPTED && is_kept(card + 30 * BLOCK));
+    EXPECT(untouched(card + 2 * BLOCK, 28 * BLOCK) && untouched(card + 31 * BLOCK, 32 * BLOCK));
+    EXPECT(untouched(card + MOST, sizeof card - MOST));
+}
+
+/* Lengths of a card, the first of which alone is right; and numbers past three blocks: 2^23 of them are 2^32 octets, which
+ * 32 bits don't hold. */
+static const size_t card_lengths[] = {THREE, 1, BLOCK - 1, BLOCK + 1, THREE - 1, THREE + 1, MOST - 1, MOST + 1, MOST + BLOCK};
+static const uint32_t past[] = {3, 4, 63, 64, 256, 65536, 1u << 23, (1u << 23) + 1, 1u << 31, UINT32_MAX};
+
+static void refusing_to_replace(void)
+{
+    static const size_t register_lengths[] = {S3_REGISTERS, 0, 1, 3, 5}, no_plans[] = {0, 1, 2, 4, 5};
+    static const uint32_t wrong[] = {0, 0, 0, 0, 0};
+    memset(card, FOUND, sizeof card);
+#define REPLACED(octets, number, length, numbers, count) \
+    s3_replace_settings(card, octets, number, mixed, length, numbers, count)
+    for (size_t i = 0; i < COUNT(card_lengths); i++) {
+        for (size_t k = 0; k < COUNT(register_lengths); k++) {
+            if (i == 0 && k == 0) continue;
+            EXPECT(REPLACED(card_lengths[i], 1, sizeof mixed, registers, register_lengths[k]) == S3_LENGTH);
+            EXPECT(REPLACED(card_lengths[i], UINT32_MAX, 0, wrong, register_lengths[k]) == S3_LENGTH);
+        }
+    }
+    EXPECT(REPLACE(0, 0) == S3_BLOCK && REPLACED(0, UINT32_MAX, 5, wrong, 4) == S3_BLOCK);
+    EXPECT(REPLACED(0, 0, 0, wrong, 3) == S3_LENGTH);
+    for (size_t i = 0; i < COUNT(past); i++) {
+        EXPECT(REPLACE(THREE, past[i]) == S3_BLOCK && REPLACED(THREE, past[i], 5, wrong, 4) == S3_BLOCK);
+    }
+    EXPECT(REPLACE(MOST, 64) == S3_BLOCK && REPLACE(MOST + BLOCK, 64) == S3_LENGTH);
+    for (size_t i = 0; i < COUNT(refused_plans); i++) {
+        const uint8_t *const plan = refused_plans[i].octets;
+        EXPECT(s3_replace_settings(card, THREE, 1, plan, refused_plans[i].length, wrong, 4) == refused_plans[i].number);
+    }
+    for (size_t i = 0; i < COUNT(no_plans); i++) EXPECT(REPLACED(THREE, 2, no_plans[i], registers, 4) == S3_PLAN);
+    EXPECT(REPLACED(THREE, 2, sizeof mixed, wrong, 4) == S3_REGISTER && untouched(card, sizeof card));
+}
+
+/* Each of the four numbers with its least and its greatest value, and just outside them. */
+static void limits_of_registers(void)
+{
+    static const uint32_t least[] = {1u << 24, 1, 1u << 14, 1}, above[] = {1u << 25, 1u << 25, 1u << 15, 1u << 15};
+    uint32_t numbers[S3_REGISTERS];
+    memset(card, FOUND, sizeof card);
+#define KEEP(k, value) (numbers[k] = (value), s3_replace_settings(card, BLOCK, 0, mixed, sizeof mixed, numbers, 4))
+    for (size_t k = 0; k < S3_REGISTERS; k++) {
+        memcpy(numbers, registers, sizeof numbers);
+        EXPECT(KEEP(k, least[k] - 1) == S3_REGISTER && KEEP(k, above[k]) == S3_REGISTER);
+        EXPECT(KEEP(k, 0) == S3_REGISTER && KEEP(k, registers[k] | 1u << 31) == S3_REGISTER);
+        EXPECT(untouched(card, sizeof card));
+    }
+    for (size_t k = 0; k < S3_REGISTERS; k++) {
+        memcpy(numbers, registers, sizeof numbers);
+        EXPECT(KEEP(k, least[k]) == S3_ACCEPTED && KEEP(k, above[k] - 1) == S3_ACCEPTED);
+    }
+    EXPECT(untouched(card + BLOCK, sizeof card - BLOCK));
+}
+
+static uint8_t plan_back[S3_PLAN_OCTETS + 1];
+static uint32_t settings_back[S3_SETTINGS + 1];
+
+#define READ_SETTINGS(octets, number, plan_length, count) \
+    s3_read_settings(card, octets, number, plan_back, plan_length, settings_back, count)
+
+/* What s3_read_settings answers where it refuses: areas of their length hold zeros then, others are left as found. */
+static uint32_t refused_settings(size_t octets, uint32_t number, size_t plan_length, size_t count)
+{
+    const uint8_t *const settings = (const uint8_t *)settings_back;
+    const size_t in_plan = plan_length == S3_PLAN_OCTETS ? S3_PLAN_OCTETS : 0;
+    const size_t in_settings = count == S3_SETTINGS ? S3_SETTINGS * sizeof *settings_back : 0;
+    memset(plan_back, FOUND, sizeof plan_back);
+    memset(settings_back, FOUND, sizeof settings_back);
+    const uint32_t answer = READ_SETTINGS(octets, number, plan_length, count);
+    const int written = zeros(plan_back, in_plan) && zeros(settings, in_settings);
+    const int left = untouched(plan_back + in_plan, sizeof plan_back - in_plan)
+        && untouched(settings + in_settings, sizeof settings_back - in_settings);
+    return written && left ? answer : UINT32_MAX;
+}
+
+static void reading_settings(void)
+{
+    memset(card, FOUND, sizeof card);
+    put_kept(card + BLOCK);
+    memset(plan_back, FOUND, sizeof plan_back);
+    memset(settings_back, FOUND, sizeof settings_back);
+    EXPECT(READ_SETTINGS(THREE, 1, S3_PLAN_OCTETS, S3_SETTINGS) == S3_ACCEPTED);
+    EXPECT(memcmp(plan_back, mixed, sizeof mixed) == 0 && zeros(plan_back + 6, 18) && plan_back[24] == FOUND);
+    EXPECT(settings_back[0] == 2 && memcmp(settings_back + 1, registers, 4 * sizeof *registers) == 0);
+    EXPECT(untouched((const uint8_t *)(settings_back + S3_SETTINGS), sizeof *settings_back));
+    EXPECT(s3_source_octets(plan_back, 3 * settings_back[0]) == MIXED_SOURCE);
+    EXPECT(untouched(card, BLOCK) && is_kept(card + BLOCK) && untouched(card + 2 * BLOCK, sizeof card - 2 * BLOCK));
+    put_kept(card);
+    put_kept(card + 63 * BLOCK);
+    EXPECT(READ_SETTINGS(BLOCK, 0, 24, 5) == S3_ACCEPTED && READ_SETTINGS(MOST, 63, 24, 5) == S3_ACCEPTED);
+    EXPECT(s3_replace_settings(card, MOST, 7, lowest, sizeof lowest, registers, S3_REGISTERS) == S3_ACCEPTED);
+    EXPECT(READ_SETTINGS(MOST, 7, 24, 5) == S3_ACCEPTED && settings_back[0] == 1);
+    EXPECT(memcmp(plan_back, lowest, sizeof lowest) == 0 && zeros(plan_back + 3, 21));
+    EXPECT(s3_replace_settings(card, MOST, 63, plan_back, 3, settings_back + 1, S3_REGISTERS) == S3_ACCEPTED);
+    EXPECT(memcmp(card + 7 * BLOCK, card + 63 * BLOCK, BLOCK) == 0);
+}
+
+static void refusing_settings(void)
+{
+    static const size_t plan_lengths[] = {S3_PLAN_OCTETS, 0, 3, 6, 23, 25}, counts[] = {S3_SETTINGS, 0, 1, 4, 6};
+    for (size_t k = 0; k <= S3_MOST_SETTINGS; k++) put_kept(card + k * BLOCK);
+    card[MOST + BLOCK] = 0;
+    for (size_t i = 0; i < COUNT(card_lengths) * COUNT(plan_lengths) * COUNT(counts); i++) {
+        const size_t octets = card_lengths[i % COUNT(card_lengths)], rest = i / COUNT(card_lengths);
+        const size_t plan_length = plan_lengths[rest % COUNT(plan_lengths)], count = counts[rest / COUNT(plan_lengths)];
+        if (i == 0) continue; /* all three are right */
+        EXPECT(refused_settings(octets, 1, plan_length, count) == S3_LENGTH);
+        EXPECT(refused_settings(octets, UINT32_MAX, plan_length, count) == S3_LENGTH);
+    }
+    EXPECT(refused_settings(0, 0, 24, 5) == S3_BLOCK && refused_settings(0, UINT32_MAX, 24, 5) == S3_BLOCK);
+    EXPECT(refused_settings(0, 0, 23, 5) == S3_LENGTH && refused_settings(0, 0, 24, 4) == S3_LENGTH);
+    for (size_t i = 0; i < COUNT(past); i++) EXPECT(refused_settings(THREE, past[i], 24, 5) == S3_BLOCK);
+    EXPECT(refused_settings(MOST, 64, 24, 5) == S3_BLOCK && refused_settings(MOST + BLOCK, 64, 24, 5) == S3_LENGTH);
+    for (size_t k = 0; k <= S3_MOST_SETTINGS; k++) EXPECT(is_kept(card + k * BLOCK));
+}
+
+/* Other octets in a block, one or more alike, and what it is refused with then where its sum is put right. */
+static const struct {
+    uint32_t number;
+    size_t at, length;
+    uint8_t octet;
+} changes[] = {
+    {S3_BLOCK, 0, 1, 's'}, {S3_BLOCK, 3, 1, 'M'}, {S3_BLOCK, 4, 1, 0}, {S3_BLOCK, 4, 1, 2}, {S3_BLOCK, 12, 1, 1},
+    {S3_BLOCK, 29, 1, 128}, {S3_BLOCK, 46, 1, 1}, {S3_BLOCK, 300, 1, 255}, {S3_BLOCK, 509, 1, 128},
+    {S3_BLOCK, 5, 1, 0}, {S3_BLOCK, 5, 1, 1}, /* groups behind the count that are not zeros */
+    {S3_PLAN, 5, 7, 0}, {S3_PLAN, 5, 1, 9}, {S3_PLAN, 5, 1, 255}, {S3_PLAN, 5, 25, 9}, {S3_BLOCK, 5, 505, 9},
+    {S3_VALUE, 5, 1, 3}, {S3_VALUE, 5, 1, 8}, {S3_VALUE, 7, 1, 12}, {S3_VALUE, 8, 1, 114}, {S3_ORDER, 6, 1, 1},
+    {S3_ORDER, 9, 1, 5}, {S3_TOTAL, 8, 1, 110}, {S3_TOTAL, 11, 1, 250},
+    {S3_REGISTER, 30, 1, 0}, {S3_REGISTER, 30, 1, 2}, {S3_REGISTER, 34, 1, 2}, {S3_REGISTER, 34, 4, 0},
+    {S3_REGISTER, 40, 1, 0x3F}, {S3_REGISTER, 40, 1, 0x80}, {S3_REGISTER, 39, 1, 1}, {S3_REGISTER, 42, 4, 0},
+    {S3_REGISTER, 44, 1, 0x80},
+};
+
+static void changed_blocks(void)
+{
+    memset(card, FOUND, sizeof card);
+    EXPECT(refused_settings(THREE, 1, 24, 5) == S3_BLOCK);
+    for (size_t i = 0; i < COUNT(changes); i++) {
+        put_kept(card + BLOCK);
+        memset(card + BLOCK + changes[i].at, changes[i].octet, changes[i].length);
+        EXPECT(refused_settings(THREE, 1, 24, 5) == S3_BLOCK);
+        put_sum(card + BLOCK);
+        EXPECT(refused_settings(THREE, 1, 24, 5) == changes[i].number);
+        EXPECT(refused_settings(THREE, 3, 24, 5) == S3_BLOCK && refused_settings(THREE, 1, 24, 4) == S3_LENGTH);
+    }
+    for (size_t bit_of_sum = 8 * 510; bit_of_sum < 8 * BLOCK; bit_of_sum++) {
+        put_kept(card + BLOCK);
+        flip(card + BLOCK, bit_of_sum);
+        EXPECT(refused_settings(THREE, 1, 24, 5) == S3_BLOCK);
+    }
+    /* Wrong registers, then a wrong plan with them, then a filler beside both. */
+    put_kept(card + BLOCK);
+    memset(card + BLOCK + 30, 0, 16);
+    put_sum(card + BLOCK);
+    EXPECT(refused_settings(THREE, 1, 24, 5) == S3_REGISTER);
+    card[BLOCK + 8] = 110;
+    put_sum(card + BLOCK);
+    EXPECT(refused_settings(THREE, 1, 24, 5) == S3_TOTAL);
+    card[BLOCK + 46] = 1;
+    put_sum(card + BLOCK);
+    EXPECT(refused_settings(THREE, 1, 24, 5) == S3_BLOCK);
+    EXPECT(untouched(card, BLOCK) && untouched(card + 2 * BLOCK, sizeof card - 2 * BLOCK));
+}
+
 int main(void)
 {
     words();
@@ -728,6 +954,12 @@ int main(void)
     filling_with_tlv();
     reading_tlv();
     refusing_to_read();
+    replacing_settings();
+    refusing_to_replace();
+    limits_of_registers();
+    reading_settings();
+    refusing_settings();
+    changed_blocks();
     printf("c: %u passed, %u failed\n", passed, failed);
     return failed != 0;
 }

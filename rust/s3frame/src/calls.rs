@@ -6,8 +6,8 @@
 //! written overlaps another.
 //!
 //! A plan is lent as three octets for each group: modulation, rate, slots. `next` takes two numbers: of a slot call the next
-//! slot and its register, of a TLV call what it says. Each call's numbers are listed in the order in which they are tested; slot number 0 is 1 wherever a slot is
-//! named.
+//! slot and its register, of a TLV call what it says. Each call's numbers are listed in the order in which they are tested;
+//! slot number 0 is 1 wherever a slot is named.
 
 extern "C" {
     fn s3_open(plan: *const u8, plan_length: usize, mask: u32, start: u32, next: *mut u32, next_length: usize) -> u32;
@@ -190,6 +190,24 @@ extern "C" {
         packets_length: usize,
         next: *mut u64,
         next_length: usize,
+    ) -> u32;
+    fn s3_read_settings(
+        card: *const u8,
+        card_length: usize,
+        number: u32,
+        plan: *mut u8,
+        plan_length: usize,
+        settings: *mut u32,
+        settings_length: usize,
+    ) -> u32;
+    fn s3_replace_settings(
+        card: *mut u8,
+        card_length: usize,
+        number: u32,
+        plan: *const u8,
+        plan_length: usize,
+        registers: *const u32,
+        registers_length: usize,
     ) -> u32;
 }
 
@@ -519,6 +537,39 @@ pub fn tlv_read(
             packets.len(),
             next.as_mut_ptr(),
             next.len(),
+        )
+    }
+}
+
+/// Reads a block of a card. Every answer writes a `plan` of 24 octets, three for each group and zeros behind them, and
+/// `settings` of five numbers: groups, slot mask, slot start, TMCC mask, TMCC start; zeros with a refusal. Numbers: 4, 17, 1,
+/// 13, 14, 15, 6.
+pub fn read_settings(card: &[u8], number: u32, plan: &mut [u8], settings: &mut [u32]) -> u32 {
+    unsafe {
+        s3_read_settings(
+            card.as_ptr(),
+            card.len(),
+            number,
+            plan.as_mut_ptr(),
+            plan.len(),
+            settings.as_mut_ptr(),
+            settings.len(),
+        )
+    }
+}
+
+/// Replaces a block of a card; `registers` are four numbers: slot mask, slot start, TMCC mask, TMCC start. Numbers: 4, 17, 1,
+/// 13, 14, 15, 6.
+pub fn replace_settings(card: &mut [u8], number: u32, plan: &[u8], registers: &[u32]) -> u32 {
+    unsafe {
+        s3_replace_settings(
+            card.as_mut_ptr(),
+            card.len(),
+            number,
+            plan.as_ptr(),
+            plan.len(),
+            registers.as_ptr(),
+            registers.len(),
         )
     }
 }

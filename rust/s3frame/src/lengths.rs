@@ -20,6 +20,10 @@ pub const BLOCK_LABELS: usize = 8 * BLOCK_OCTETS;
 pub const MOST_TABLE: usize = 510;
 /// The most header and data octets of a slot.
 pub const MOST_SOURCE: usize = 5_071;
+/// The octets of a setting on a card.
+pub const SETTING_OCTETS: usize = 512;
+/// The most settings of a card.
+pub const MOST_SETTINGS: usize = 64;
 
 #[cfg(test)]
 mod tests {

@@ -40,6 +40,7 @@ mod packets;
 mod plan;
 mod rate;
 mod refusal;
+mod settings;
 mod state;
 mod symbols;
 mod tlv;
@@ -47,14 +48,15 @@ mod tmcc;
 
 pub use frame::{code_frame, read_frame, FrameRead, SlotAnswer};
 pub use lengths::{
-    BLOCK_LABELS, BLOCK_OCTETS, FRAME_OCTETS, HEADER_OCTETS, MOST_SOURCE, MOST_TABLE, PACKET_OCTETS, SLOTS,
-    SLOT_OCTETS, TMCC_OCTETS,
+    BLOCK_LABELS, BLOCK_OCTETS, FRAME_OCTETS, HEADER_OCTETS, MOST_SETTINGS, MOST_SOURCE, MOST_TABLE, PACKET_OCTETS,
+    SETTING_OCTETS, SLOTS, SLOT_OCTETS, TMCC_OCTETS,
 };
 pub use modulation::Modulation;
 pub use packets::{pack, unpack};
 pub use plan::{Group, Place, Plan};
 pub use rate::Rate;
 pub use refusal::Refusal;
+pub use settings::{read_settings, replace_settings, Settings};
 pub use state::{check_parity, FrameState, SlotRead, SlotSettings};
 pub use symbols::{labels, slot_of_labels, tmcc_labels, tmcc_of_labels};
 pub use tlv::{fill_tlv, read_tlv, TlvFilled, TlvRead, NO_BEGIN};

@@ -3,7 +3,7 @@ use crate::refusal::answer;
 use crate::{calls, Modulation, Rate, Refusal};
 
 /// The most octets of a plan: eight groups.
-const MOST_OCTETS: usize = 24;
+pub(crate) const MOST_OCTETS: usize = 24;
 
 /// Slots of a frame for one modulation and rate, dummies included.
 #[derive(Clone, Copy, Debug, PartialEq, Eq, Hash)]

@@ -23,6 +23,7 @@ numbered! {
         Order = 14 "the groups do not fall: higher modulations come first and, within one, higher rates",
         Total = 15 "the slots of all groups do not add to 120",
         Packet = 16 "a TLV head is wrong, a null body holds another octet, or a head or length runs past the packets",
+        Block = 17 "the card has no block of this number, or its mark, edition or sum is wrong, or a filler isn't zero",
     }
 }
 
@@ -46,6 +47,7 @@ impl Refusal {
             Refusal::Order => "order",
             Refusal::Total => "total",
             Refusal::Packet => "packet",
+            Refusal::Block => "block",
         }
     }
 }
@@ -73,7 +75,8 @@ mod tests {
 
     #[test]
     fn the_numbers_and_words_of_the_documents() {
-        let words = "plan dummy full length table register sync parity BCH stuff tail label value order total packet";
+        let words =
+            "plan dummy full length table register sync parity BCH stuff tail label value order total packet block";
         let words: Vec<&str> = words.split(' ').collect();
         assert_eq!(words.len(), Refusal::ALL.len());
         for (number, word) in (1..).zip(words) {
@@ -81,7 +84,7 @@ mod tests {
             assert_eq!((refusal.number(), refusal.word()), (number, word));
             assert_eq!(answer(number), Err(refusal));
         }
-        assert_eq!([Refusal::from_number(0), Refusal::from_number(17)], [None, None]);
+        assert_eq!([Refusal::from_number(0), Refusal::from_number(18)], [None, None]);
         assert_eq!(answer(0), Ok(()));
     }
 

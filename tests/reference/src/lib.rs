@@ -1,6 +1,7 @@
-//! A second implementation of the coders and readers of slots, whole frames and TMCC blocks, and of TLV channels, written
-//! from document 002 and, where its drawings are lost, from documents 01 and 02. It shares nothing with the proved crates:
-//! bits lie one to an octet, and each step is the document's. The library is for tests that compare call by call.
+//! A second implementation of the coders and readers of slots, whole frames and TMCC blocks, of TLV channels, and of settings
+//! on a card, written from document 002 and, where its drawings are lost, from documents 01 and 02. It shares nothing with
+//! the proved crates: bits lie one to an octet, and each step is the document's. The library is for tests that compare call
+//! by call.
 pub mod bch;
 pub mod bench;
 pub mod calls;
@@ -12,6 +13,7 @@ pub mod packets;
 pub mod plan;
 pub mod quick;
 pub mod samples;
+pub mod settings;
 pub mod slot;
 pub mod stream;
 pub mod symbols;

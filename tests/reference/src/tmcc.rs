@@ -10,7 +10,7 @@ pub const SOURCE_OCTETS: usize = 1178;
 /// TMCC and BCH bits, which alone are dispersed.
 pub const DISPERSED_BITS: usize = BITS + bch::BITS;
 const BITS: usize = 9422;
-const WIDTH: u32 = 15;
+pub const WIDTH: u32 = 15;
 const ZEROS_BEFORE: usize = 1870;
 const ZEROS_AFTER: usize = 11330;
 

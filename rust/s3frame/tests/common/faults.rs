@@ -52,7 +52,7 @@ pub fn break_plan_or_slot(random: &mut Random, faults: &Faults, plan: &mut Vec<u
 }
 
 /// 13, 14 and 15, each without breaking a rule that is not asked for, or mending one that is.
-fn break_rules(random: &mut Random, faults: &Faults, plan: &mut Vec<u8>) {
+pub fn break_rules(random: &mut Random, faults: &Faults, plan: &mut Vec<u8>) {
     if faults.has(15) {
         break_total(random, plan);
     }

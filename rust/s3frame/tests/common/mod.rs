@@ -2,12 +2,14 @@
 //!
 //! S3_SEED sets the seed, S3_SOAK multiplies the counts.
 #![allow(dead_code)] // each test file uses a part of this
+pub mod cards;
 pub mod faults;
 pub mod tlv;
 use reference::calls::State;
 use reference::ldpc::{GROUP, ROWS};
 use reference::slot::{bits_of, octets_of, Code};
 use s3frame::{FrameState, Group, Modulation, Plan, Rate, SlotSettings, TmccSettings, PACKET_OCTETS};
+use std::collections::BTreeMap;
 
 fn setting(name: &str, usual: u64) -> u64 {
     match std::env::var(name) {
@@ -233,4 +235,29 @@ pub fn code(rate: Rate, table: &[u16]) -> Code {
 /// The number of a result.
 pub fn number<T>(answer: Result<T, s3frame::Refusal>) -> u32 {
     answer.err().map_or(0, |refusal| refusal.number())
+}
+
+/// How often each kind of case occurred.
+#[derive(Default)]
+pub struct Counts(BTreeMap<&'static str, usize>);
+
+impl Counts {
+    pub fn add(&mut self, kind: &'static str) {
+        *self.0.entry(kind).or_default() += 1;
+    }
+
+    pub fn add_if(&mut self, holds: bool, kind: &'static str) {
+        if holds {
+            self.add(kind);
+        }
+    }
+
+    /// The kinds that occurred must be just these.
+    pub fn are(&self, kinds: &[&'static str]) {
+        println!("{:?}", self.0);
+        let mut kinds = kinds.to_vec();
+        kinds.sort();
+        let occurred: Vec<&str> = self.0.keys().copied().collect();
+        assert_eq!(occurred, kinds);
+    }
 }

@@ -1,7 +1,6 @@
 //! Streams of TLV packets.
 use super::Random;
 use s3frame::{Rate, TlvFilled};
-use std::collections::BTreeMap;
 
 /// The empty null packet, which fills up.
 pub const FILLER: [u8; 4] = [0x7f, 0xff, 0, 0];
@@ -145,30 +144,5 @@ impl Random {
             packets.push(packet);
         }
         packets
-    }
-}
-
-/// How often each kind of case occurred.
-#[derive(Default)]
-pub struct Counts(BTreeMap<&'static str, usize>);
-
-impl Counts {
-    pub fn add(&mut self, kind: &'static str) {
-        *self.0.entry(kind).or_default() += 1;
-    }
-
-    pub fn add_if(&mut self, holds: bool, kind: &'static str) {
-        if holds {
-            self.add(kind);
-        }
-    }
-
-    /// The kinds that occurred must be just these.
-    pub fn are(&self, kinds: &[&'static str]) {
-        println!("{:?}", self.0);
-        let mut kinds = kinds.to_vec();
-        kinds.sort();
-        let occurred: Vec<&str> = self.0.keys().copied().collect();
-        assert_eq!(occurred, kinds);
     }
 }

@@ -12,10 +12,12 @@ mod labels;
 mod packets;
 mod plans;
 mod rates;
+mod settings;
 mod slot_packets;
 mod slots;
 mod states;
 mod tlv;
+mod ways;
 
 /// Makes a call both ways on areas as found; the number must be the one expected, and both must leave the same. Gives the
 /// areas left.

@@ -4,20 +4,8 @@ use crate::common::faults::{self, break_packets, choices, Faults, PACKET_FAULTS}
 use crate::common::tlv::Stream;
 use crate::common::{trials, Random};
 use crate::compared;
+use crate::ways::{alone_and_in_pairs, Way};
 use s3frame::Rate;
-
-/// A way to 4, and what of the call it breaks: two ways that break the same might mend each other.
-struct Way<L> {
-    of: &'static str,
-    break_it: fn(&mut L),
-}
-
-/// Each way alone, and each two that break different things.
-fn alone_and_in_pairs<L>(ways: &[Way<L>]) -> Vec<Vec<&Way<L>>> {
-    let alone = ways.iter().map(|way| vec![way]);
-    let pairs = ways.iter().enumerate().flat_map(|(k, one)| ways[..k].iter().map(move |other| vec![one, other]));
-    alone.chain(pairs.filter(|pair| pair[0].of != pair[1].of)).collect()
-}
 
 /// Two numbers that are not 0, so that what is left as found shows.
 fn found_next(random: &mut Random) -> Vec<u64> {

@@ -1,6 +1,6 @@
 //! Reading slots that are damaged, with reports that are false, from any octet on.
-use crate::common::tlv::{Counts, Piece};
-use crate::common::{trials, Random};
+use crate::common::tlv::Piece;
+use crate::common::{trials, Counts, Random};
 use crate::reading::{expected_pieces, Received};
 use crate::{filled, filled_stream, streams};
 use s3frame::{Rate, TlvFilled, NO_BEGIN};

@@ -1,7 +1,7 @@
 //! Filling slots.
 use crate::common::faults::{break_packets, PACKET_FAULTS};
-use crate::common::tlv::{Counts, Piece, Stream, FILLER};
-use crate::common::Random;
+use crate::common::tlv::{Piece, Stream, FILLER};
+use crate::common::{Counts, Random};
 use crate::{cut, filled, filled_stream, streams, CUTS};
 use s3frame::{Refusal, TlvFilled, NO_BEGIN};
 

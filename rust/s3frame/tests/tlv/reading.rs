@@ -1,6 +1,6 @@
 //! Reading slots that were filled, of which some may be lost.
-use crate::common::tlv::{Counts, Piece, Stream, FILLER};
-use crate::common::Random;
+use crate::common::tlv::{Piece, Stream, FILLER};
+use crate::common::{Counts, Random};
 use crate::{cut, filled_stream, streams, Slots, CUTS};
 use s3frame::{read_tlv, Rate, Refusal, TlvFilled, TlvRead, NO_BEGIN};
 
