@@ -7,6 +7,7 @@ mod failure;
 mod files;
 mod frames;
 mod gaps;
+mod help;
 mod inputs;
 mod interrupt;
 mod json;

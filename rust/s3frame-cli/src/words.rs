@@ -1,72 +1,9 @@
-//! The words of the command line, and the help.
+//! The words of the command line.
+use crate::help::{page, FRAME_FORM, JSON_FORM, PLAN_FORM, STATUS, TLV_FORM};
 use clap::{Args, Parser, Subcommand};
 use std::fmt::{self, Display};
 use std::path::PathBuf;
 use std::str::FromStr;
-
-const STATUS: &str = "\
-EXIT STATUS
-  0  all is well
-  1  slots are refused, lists differ, or an input ends inside a packet or a frame
-  2  wrong use, a file that cannot be read, written or used, a refused plan or setting;
-     no file is left
-
-A run that is interrupted (SIGHUP, SIGINT, SIGTERM) ends by the signal, and leaves no file.";
-
-const PLAN_FORM: &str = "\
-PLAN
-  A line for each of 1 to 8 groups: modulation, rate and slots, as `4 7 115`.
-
-  modulation  1 π/2-shift BPSK, 2 QPSK, 3 8PSK, 4 16APSK, 5 32APSK
-  rate        1 1/3, 2 2/5, 3 1/2, 4 3/5, 5 2/3, 6 3/4, 7 7/9, 8 4/5, 9 5/6, 10 7/8, 11 9/10
-  slots       a multiple of 5 above 0; all lines add to 120
-
-  Higher modulations come first and, within one, higher rates; no two lines have both alike.
-  Numbers have 1 to 3 digits and no leading zeros. One space stands between them, a line feed
-  after each line. The text has 128 octets at most.
-
-  These rules are tested in their order, each over all lines; the first that is broken refuses
-  the plan:
-
-   1 plan   no lines, more than 8, or a text of another form
-  13 value  an unknown modulation or rate, or slots that are 0 or no multiple of 5
-  14 order  lines that do not fall
-  15 total  slots that do not add to 120";
-
-const FRAME_FORM: &str = "\
-FILES
-  Packets are TS packets of 188 octets, end to end, each beginning 0x47, or with --tlv TLV
-  packets. A frame has 673,200 octets: 120 slots of 5,610. Headers are 22 octets for each data
-  slot, in the order of the slots. The parity tables are the published ones.
-
-  `-`, or no name, is standard input or output. A file that is made gets its name once it is
-  whole; until then an earlier file of that name stays. No output may be an input, or another
-  output. The report goes to standard output or, where an output stands there, to standard
-  error.";
-
-const TLV_FORM: &str = "\
-TLV
-  With --tlv packets are TLV packets, end to end: 0x7F, a type octet (0x01, 0x02, 0x03, 0xFE or
-  0xFF), a length of two octets, high octet first, and a body of that length; the body of a null
-  packet, type 0xFF, is all 0xFF. The plan has one group. Packets run on from slot to slot and
-  from frame to frame. Empty null packets (7F FF 00 00) fill the last frame; in reading all of
-  them are left out, also those that were among the packets.
-
-  Each data slot has a report: the octet of its data, counted from 0, where the first packet
-  begins, or 65535 where none does. By it reading goes on behind a slot that is refused. The
-  reports are a file beside the frames, under their name with `.begins` behind it or the name
-  behind --begins: two octets for each data slot, in the order of the slots, high octet first.";
-
-const JSON_FORM: &str = "\
-JSON
-  One document. `plan`, `mask` and `start` are the settings. `frames` is a list: each frame's
-  numbers as in its line, and `refused`, the list of its refused slots. `total` has the numbers
-  of all frames, `left_over` the octets behind the last whole one.";
-
-/// Sections of a help page, an empty line between.
-fn page(sections: &[&str]) -> String {
-    sections.join("\n\n")
-}
 
 /// Codes TS or TLV packets into ISDB-S3 frames, and reads frames back
 ///
