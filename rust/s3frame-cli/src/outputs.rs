@@ -37,7 +37,11 @@ impl Unfinished {
 
     /// Gives the file its place.
     fn rename(&self) -> io::Result<()> {
-        fs::rename(self.folder.path().join(&self.name), &self.place)
+        fs::rename(self.folder.path().join(&self.name), &self.place)?;
+        // The new name should outlast a power cut too. It is given already, so that this is no reason to fail any more; and
+        // there are file systems that cannot do it.
+        let _ = File::open(folder_of(&self.place)).and_then(|folder| folder.sync_all());
+        Ok(())
     }
 }
 
@@ -90,12 +94,22 @@ impl Output {
     pub fn flush(&mut self) -> Result<(), Failure> {
         self.writer.flush().map_err(|error| Failure::new(&self.name, error))
     }
+
+    /// Makes a file whole that is to get its name: its octets are on the disk before the name is, so that a power cut leaves
+    /// the earlier file or this one.
+    fn settle(&mut self) -> Result<(), Failure> {
+        self.flush()?;
+        match self.unfinished {
+            Some(_) => self.writer.get_ref().sync_all().map_err(|error| Failure::new(&self.name, error)),
+            None => Ok(()),
+        }
+    }
 }
 
 /// Gives all outputs of a run their names, none before all of them are whole.
 pub fn keep(outputs: impl IntoIterator<Item = Output>) -> Result<(), Failure> {
     let mut outputs: Vec<Output> = outputs.into_iter().collect();
-    outputs.iter_mut().try_for_each(Output::flush)?;
+    outputs.iter_mut().try_for_each(Output::settle)?;
     interrupt::undisturbed(|_| {
         outputs.iter().try_for_each(|output| match &output.unfinished {
             Some(unfinished) => unfinished.rename().map_err(|error| Failure::new(&output.name, error)),
