@@ -2,11 +2,12 @@
 pub const STATUS: &str = "\
 EXIT STATUS
   0  all is well
-  1  slots are refused, lists differ, or an input ends inside a packet or a frame
+  1  slots or listed blocks are refused, lists differ, or an input ends inside a packet or a frame
   2  wrong use, a file that cannot be read, written or used, a refused plan or setting;
-     no file is left
+     no file is made or replaced
 
-A run that is interrupted (SIGHUP, SIGINT, SIGTERM) ends by the signal, and leaves no file.";
+A run that is interrupted (SIGHUP, SIGINT, SIGTERM) ends by the signal, and makes or replaces
+no file.";
 
 pub const PLAN_FORM: &str = "\
 PLAN
@@ -27,6 +28,38 @@ PLAN
   13 value  an unknown modulation or rate, or slots that are 0 or no multiple of 5
   14 order  lines that do not fall
   15 total  slots that do not add to 120";
+
+pub const CARD_FORM: &str = "\
+CARD
+  0 to 64 blocks of 512 octets, end to end, numbered from 0. A block keeps one setting; its
+  numbers have the high octet first:
+
+  offset  octets
+       0       4  the mark S3PL
+       4       1  the edition, 1
+       5       1  how many groups the plan has
+       6      24  eight groups: modulation, rate and slots, an octet each; unused ones are zeros
+      30       4  mask of the slots' register
+      34       4  start of the slots' register
+      38       4  mask of the TMCC blocks' register
+      42       4  start of the TMCC blocks' register
+      46     464  zeros
+     510       2  the sum of the 510 octets before, modulo 65536
+
+  A block of zeros is empty. `truncate -s 32768 card` makes a new card of 64 empty blocks.
+
+  These rules are tested in their order; the first that is broken refuses the block, an empty one
+  by 17:
+
+   4 length    the file is not 0 to 64 whole blocks
+  17 block     there is no block of this number; its mark, edition or sum is wrong, or an octet
+               that has to be zero is not
+   1 plan, 13 value, 14 order, 15 total
+               the plan is refused as that of a plan's file is
+   6 register  a mask lacks its top weight, a start is 0, or either is too wide
+
+  To replace a block another file is written, which gets the card's name once it is whole: a run
+  that is cut off leaves the old card. The card's permissions stay, and a link stays a link.";
 
 pub const FRAME_FORM: &str = "\
 FILES
@@ -57,6 +90,19 @@ JSON
   One document. `plan`, `mask` and `start` are the settings. `frames` is a list: each frame's
   numbers as in its line, and `refused`, the list of its refused slots. `total` has the numbers
   of all frames, `left_over` the octets behind the last whole one.";
+
+pub const MASK: &str =
+    "The taps of the slots' 25-bit dispersal register: a number with the weight 2^24, in decimal or behind 0x";
+pub const START: &str =
+    "Where the slots' register starts in each frame: a number from 1 to 2^25 - 1, in decimal or behind 0x";
+
+/// The two ways to name the setting of a job on frames.
+pub fn usage(job: &str) -> String {
+    format!(
+        "s3frame {job} [OPTIONS] --plan <PLAN> --mask <M> --start <S> [INPUT]\n       \
+         s3frame {job} [OPTIONS] --settings <CARD> --block <N> [INPUT]"
+    )
+}
 
 /// Sections of a help page, an empty line between.
 pub fn page(sections: &[&str]) -> String {

@@ -2,7 +2,7 @@
 use crate::failure::Failure;
 use crate::interrupt;
 use std::ffi::OsString;
-use std::fs::{self, File};
+use std::fs::{self, File, Metadata};
 use std::io::{self, BufWriter, Write};
 use std::os::unix::io::AsFd;
 use std::path::{Path, PathBuf};
@@ -74,6 +74,18 @@ impl Output {
             Ok((unfinished, file)) => Output::new(name, Ok(file), Some(unfinished)),
             Err(error) => Err(Failure::new(name, error)),
         }
+    }
+
+    /// A file that takes the place of one that is there, once it is whole, and has its permissions.
+    pub fn replace(path: &Path, there: &Metadata) -> Result<Output, Failure> {
+        let output = Output::create(path)?;
+        let file = output.writer.get_ref();
+        let failed = |error| Failure::new(&output.name, error);
+        // A file system that knows no permissions gives all files the same.
+        if file.metadata().map_err(failed)?.permissions() != there.permissions() {
+            file.set_permissions(there.permissions()).map_err(failed)?;
+        }
+        Ok(output)
     }
 
     /// Standard output.
