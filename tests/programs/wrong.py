@@ -39,7 +39,8 @@ def words_and_files(job, given):
     refused("an output that is a folder", [*good, "-o", "."], rf"^s3frame {job}: \.: Is a directory")
     refused("an unknown word", [*good, "-o", "out", "--unknown"], "^s3frame: .*--unknown")
     refused("too many words", [*good, "more", "-o", "out"], "^s3frame: .*more")
-    refused("no mask", [job, "--plan", "plan", "--start", "1", given, "-o", "out"], "^s3frame: (.|\n)*--mask")
+    refused("no mask", [job, "--plan", "plan", "--start", "1", given, "-o", "out"],
+            f"^s3frame {job}: settings: name either --plan, --mask and --start, or --settings and --block$")
     refused("missing headers", [*good, "-o", "out", "--headers", "none/headers"], f"^s3frame {job}: none/headers: No such file")
 
 
@@ -173,7 +174,8 @@ def closed_pipe():
 def help_pages():
     version = well("the version", "--version")
     check(f"the version: {version}", re.fullmatch(r"s3frame \d+\.\d+\.\d+\n", version))
-    for words in ([], ["plan"], ["code"], ["monitor"], ["compare"]):
+    for words in ([], ["plan"], ["code"], ["monitor"], ["compare"], ["settings"], ["settings", "list"],
+                  ["settings", "show"], ["settings", "set"]):
         page = well(f"help of {words}", *words, "--help")
         check(f"help of {words}: use, status and an example",
               all(part in page for part in ("Usage: s3frame", "EXIT STATUS", "EXAMPLE")))

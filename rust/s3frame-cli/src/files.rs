@@ -1,4 +1,4 @@
-//! The files of one run: each output has a place of its own, and none is an input.
+//! The files of one run: each output has a place of its own, and none is an input, unless it replaces it.
 use crate::failure::Failure;
 use crate::inputs::{Input, STANDARD_INPUT};
 use crate::outputs::{folder_of, Output, STANDARD_OUTPUT};
@@ -83,6 +83,16 @@ impl Files {
             }
             None => self.standard_output(content),
         }
+    }
+
+    /// Opens a file that is read and then replaced: what it holds, and what takes its place. No other output is an input.
+    pub fn open_to_replace(&mut self, word: &Path) -> Result<(Input, Output), Failure> {
+        let path = named(Some(word));
+        let path = path.ok_or_else(|| Failure::new(STANDARD_INPUT, "cannot be replaced: name a file"))?;
+        let input = Input::open_to_replace(path)?;
+        self.take(Identity::of(input.metadata()), input.name())?;
+        let output = Output::replace(path, input.metadata())?;
+        Ok((input, output))
     }
 
     /// Creates a file to write that is left out where no word names it.

@@ -1,9 +1,10 @@
 //! What coding and reading frames share: the plan's places, their tables, and the state at slot 1.
+use crate::card::Card;
 use crate::failure::Failure;
 use crate::files::{Content, Files};
 use crate::plan_text::{lines_at_fault, octets_of, MOST_OCTETS};
-use crate::words::SettingWords;
-use s3frame::{FrameState, Place, Plan, Rate, Refusal, SlotSettings, SLOTS};
+use crate::words::{Number, Setting, SettingWords};
+use s3frame::{FrameState, Place, Plan, Rate, Refusal, Settings, SlotSettings, SLOTS};
 use std::path::Path;
 
 /// Reads a plan's file: the plan, and what messages call the file. One octet more than a text may have is asked for, so that
@@ -16,6 +17,12 @@ pub fn read_plan(files: &mut Files, word: &Path) -> Result<(Plan, String), Failu
     let refused = |refusal| Failure::new(input.name(), format!("{refusal}{}", lines_at_fault(&octets, refusal)));
     let plan = Plan::of_octets(&octets).map_err(refused)?;
     Ok((plan, input.name().to_string()))
+}
+
+/// Opens a frame of a plan under mask and start.
+pub fn open_frame(plan: Plan, mask: &Number, start: &Number) -> Result<FrameState, Failure> {
+    let refused = |refusal| Failure::new(format!("mask {mask} and start {start}"), refusal);
+    FrameState::open(plan, SlotSettings { mask: mask.value, start: start.value }).map_err(refused)
 }
 
 /// The places of a plan's slots, slot 1 first.
@@ -40,14 +47,23 @@ pub struct Layout {
 }
 
 impl Layout {
-    /// The layout of a plan's file under mask and start.
+    /// The layout of a setting, said in words or kept on a card.
     pub fn open(files: &mut Files, words: &SettingWords) -> Result<Layout, Failure> {
-        let (plan, plan_name) = read_plan(files, &words.plan)?;
-        let settings = SlotSettings { mask: words.mask.value, start: words.start.value };
-        let about = format!("mask {} and start {}", words.mask, words.start);
-        let opened = FrameState::open(plan, settings).map_err(|refusal| Failure::new(about, refusal))?;
+        let (opened, plan_name) = match words.setting()? {
+            Setting::Said { plan, mask, start } => {
+                let (plan, name) = read_plan(files, plan)?;
+                (open_frame(plan, mask, start)?, name)
+            }
+            Setting::Kept { card, block } => {
+                let card = Card::open(files, card)?;
+                let Settings { plan, slots, .. } = card.setting(block)?;
+                let opened = FrameState::open(plan, slots).expect("an accepted block has an accepted register");
+                (opened, card.name_of(block))
+            }
+        };
+        let plan = opened.plan();
         let tables = plan.groups().map(|group| group.rate.published_table()).collect();
-        Ok(Layout { opened, places: places(&plan), tables, plan_name })
+        Ok(Layout { places: places(plan), opened, tables, plan_name })
     }
 
     /// The parity table of a place.

@@ -26,6 +26,17 @@ impl Input {
         Input::new(name, file)
     }
 
+    /// Opens the file at a path that will be replaced. It is opened for writing as well, so that one that is protected
+    /// against that is safe.
+    pub fn open_to_replace(path: &Path) -> Result<Input, Failure> {
+        let name = path.display().to_string();
+        let input = Input::new(name, File::options().read(true).write(true).open(path))?;
+        if !input.metadata.is_file() {
+            return Err(Failure::new(&input.name, "is a device or a pipe, which cannot be replaced"));
+        }
+        Ok(input)
+    }
+
     /// Standard input.
     pub fn standard() -> Result<Input, Failure> {
         let file = io::stdin().as_fd().try_clone_to_owned().map(File::from);

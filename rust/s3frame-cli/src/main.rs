@@ -1,12 +1,14 @@
 //! The command `s3frame`: `s3frame --help` says what it does.
 mod account;
 mod begins;
+mod card;
 mod code;
 mod compare;
 mod failure;
 mod files;
 mod frames;
 mod gaps;
+mod help;
 mod inputs;
 mod interrupt;
 mod json;
@@ -19,6 +21,7 @@ mod plan_text;
 mod progress;
 mod report;
 mod rows;
+mod settings;
 mod tally;
 mod tlv_code;
 mod tlv_input;
@@ -55,6 +58,7 @@ fn run(job: &Job) -> Result<Outcome, Failure> {
         Job::Code(words) => code::run(words),
         Job::Monitor(words) => monitor::run(words),
         Job::Compare(words) => compare::run(words),
+        Job::Settings(words) => settings::run(&words.job),
     }
 }
 

@@ -2,7 +2,7 @@
 use crate::failure::Failure;
 use crate::interrupt;
 use std::ffi::OsString;
-use std::fs::{self, File};
+use std::fs::{self, File, Metadata};
 use std::io::{self, BufWriter, Write};
 use std::os::unix::io::AsFd;
 use std::path::{Path, PathBuf};
@@ -37,7 +37,11 @@ impl Unfinished {
 
     /// Gives the file its place.
     fn rename(&self) -> io::Result<()> {
-        fs::rename(self.folder.path().join(&self.name), &self.place)
+        fs::rename(self.folder.path().join(&self.name), &self.place)?;
+        // The new name should outlast a power cut too. It is given already, so that this is no reason to fail any more; and
+        // there are file systems that cannot do it.
+        let _ = File::open(folder_of(&self.place)).and_then(|folder| folder.sync_all());
+        Ok(())
     }
 }
 
@@ -72,6 +76,18 @@ impl Output {
         }
     }
 
+    /// A file that takes the place of one that is there, once it is whole, and has its permissions.
+    pub fn replace(path: &Path, there: &Metadata) -> Result<Output, Failure> {
+        let output = Output::create(path)?;
+        let file = output.writer.get_ref();
+        let failed = |error| Failure::new(&output.name, error);
+        // A file system that knows no permissions gives all files the same.
+        if file.metadata().map_err(failed)?.permissions() != there.permissions() {
+            file.set_permissions(there.permissions()).map_err(failed)?;
+        }
+        Ok(output)
+    }
+
     /// Standard output.
     pub fn standard() -> Result<Output, Failure> {
         Output::new(STANDARD_OUTPUT.to_string(), io::stdout().as_fd().try_clone_to_owned().map(File::from), None)
@@ -90,12 +106,22 @@ impl Output {
     pub fn flush(&mut self) -> Result<(), Failure> {
         self.writer.flush().map_err(|error| Failure::new(&self.name, error))
     }
+
+    /// Makes a file whole that is to get its name: its octets are on the disk before the name is, so that a power cut leaves
+    /// the earlier file or this one.
+    fn settle(&mut self) -> Result<(), Failure> {
+        self.flush()?;
+        match self.unfinished {
+            Some(_) => self.writer.get_ref().sync_all().map_err(|error| Failure::new(&self.name, error)),
+            None => Ok(()),
+        }
+    }
 }
 
 /// Gives all outputs of a run their names, none before all of them are whole.
 pub fn keep(outputs: impl IntoIterator<Item = Output>) -> Result<(), Failure> {
     let mut outputs: Vec<Output> = outputs.into_iter().collect();
-    outputs.iter_mut().try_for_each(Output::flush)?;
+    outputs.iter_mut().try_for_each(Output::settle)?;
     interrupt::undisturbed(|_| {
         outputs.iter().try_for_each(|output| match &output.unfinished {
             Some(unfinished) => unfinished.rename().map_err(|error| Failure::new(&output.name, error)),

@@ -44,6 +44,11 @@ fn number_of(word: &[u8]) -> Option<u8> {
     Some(u8::try_from(value).unwrap_or(250 + (value % 5) as u8))
 }
 
+/// The lines of a plan's text.
+pub fn lines_of(plan: &Plan) -> Vec<String> {
+    plan.octets().chunks(3).map(|group| format!("{} {} {}", group[0], group[1], group[2])).collect()
+}
+
 /// The first lines that break the rule which refuses a plan, in words behind the refusal; none where no line does so alone.
 /// The library is asked: a line, or two that follow each other, is refused by the same rule as a plan of its own.
 pub fn lines_at_fault(octets: &[u8], refusal: Refusal) -> String {
@@ -67,6 +72,12 @@ mod tests {
     fn a_line_for_each_group() {
         assert_eq!(octets_of(b"4 7 115\n2 3 5\n"), Ok(vec![4, 7, 115, 2, 3, 5]));
         assert_eq!(octets_of(b"0 255 256\n999 10 995\n"), Ok(vec![0, 255, 251, 254, 10, 250]));
+    }
+
+    #[test]
+    fn a_plan_leads_back_to_its_lines() {
+        let plan = Plan::of_octets(&[5, 11, 100, 2, 3, 20]).expect("a plan");
+        assert_eq!(lines_of(&plan), ["5 11 100", "2 3 20"]);
     }
 
     #[test]

@@ -1,72 +1,10 @@
-//! The words of the command line, and the help.
+//! The words of the command line.
+use crate::failure::Failure;
+use crate::help::{page, usage, CARD_FORM, FRAME_FORM, JSON_FORM, MASK, PLAN_FORM, START, STATUS, TLV_FORM};
 use clap::{Args, Parser, Subcommand};
 use std::fmt::{self, Display};
-use std::path::PathBuf;
+use std::path::{Path, PathBuf};
 use std::str::FromStr;
-
-const STATUS: &str = "\
-EXIT STATUS
-  0  all is well
-  1  slots are refused, lists differ, or an input ends inside a packet or a frame
-  2  wrong use, a file that cannot be read, written or used, a refused plan or setting;
-     no file is left
-
-A run that is interrupted (SIGHUP, SIGINT, SIGTERM) ends by the signal, and leaves no file.";
-
-const PLAN_FORM: &str = "\
-PLAN
-  A line for each of 1 to 8 groups: modulation, rate and slots, as `4 7 115`.
-
-  modulation  1 π/2-shift BPSK, 2 QPSK, 3 8PSK, 4 16APSK, 5 32APSK
-  rate        1 1/3, 2 2/5, 3 1/2, 4 3/5, 5 2/3, 6 3/4, 7 7/9, 8 4/5, 9 5/6, 10 7/8, 11 9/10
-  slots       a multiple of 5 above 0; all lines add to 120
-
-  Higher modulations come first and, within one, higher rates; no two lines have both alike.
-  Numbers have 1 to 3 digits and no leading zeros. One space stands between them, a line feed
-  after each line. The text has 128 octets at most.
-
-  These rules are tested in their order, each over all lines; the first that is broken refuses
-  the plan:
-
-   1 plan   no lines, more than 8, or a text of another form
-  13 value  an unknown modulation or rate, or slots that are 0 or no multiple of 5
-  14 order  lines that do not fall
-  15 total  slots that do not add to 120";
-
-const FRAME_FORM: &str = "\
-FILES
-  Packets are TS packets of 188 octets, end to end, each beginning 0x47, or with --tlv TLV
-  packets. A frame has 673,200 octets: 120 slots of 5,610. Headers are 22 octets for each data
-  slot, in the order of the slots. The parity tables are the published ones.
-
-  `-`, or no name, is standard input or output. A file that is made gets its name once it is
-  whole; until then an earlier file of that name stays. No output may be an input, or another
-  output. The report goes to standard output or, where an output stands there, to standard
-  error.";
-
-const TLV_FORM: &str = "\
-TLV
-  With --tlv packets are TLV packets, end to end: 0x7F, a type octet (0x01, 0x02, 0x03, 0xFE or
-  0xFF), a length of two octets, high octet first, and a body of that length; the body of a null
-  packet, type 0xFF, is all 0xFF. The plan has one group. Packets run on from slot to slot and
-  from frame to frame. Empty null packets (7F FF 00 00) fill the last frame; in reading all of
-  them are left out, also those that were among the packets.
-
-  Each data slot has a report: the octet of its data, counted from 0, where the first packet
-  begins, or 65535 where none does. By it reading goes on behind a slot that is refused. The
-  reports are a file beside the frames, under their name with `.begins` behind it or the name
-  behind --begins: two octets for each data slot, in the order of the slots, high octet first.";
-
-const JSON_FORM: &str = "\
-JSON
-  One document. `plan`, `mask` and `start` are the settings. `frames` is a list: each frame's
-  numbers as in its line, and `refused`, the list of its refused slots. `total` has the numbers
-  of all frames, `left_over` the octets behind the last whole one.";
-
-/// Sections of a help page, an empty line between.
-fn page(sections: &[&str]) -> String {
-    sections.join("\n\n")
-}
 
 /// Codes TS or TLV packets into ISDB-S3 frames, and reads frames back
 ///
@@ -76,7 +14,9 @@ fn page(sections: &[&str]) -> String {
 #[command(name = "s3frame", version, after_long_help = page(&[
     "EXAMPLE\n  printf '4 7 115\\n2 3 5\\n' >plan.txt\n  s3frame plan plan.txt\n  \
      s3frame code --plan plan.txt --mask 0x1234567 --start 1 sent.ts -o frames\n  \
-     s3frame monitor --plan plan.txt --mask 0x1234567 --start 1 frames -o back.ts\n  s3frame compare sent.ts back.ts",
+     s3frame monitor --plan plan.txt --mask 0x1234567 --start 1 frames -o back.ts\n  s3frame compare sent.ts back.ts\n\n  \
+     truncate -s 32768 card\n  s3frame settings set card 0 --plan plan.txt --mask 0x1234567 --start 1 \\\n      \
+     --tmcc-mask 0x4001 --tmcc-start 1\n  s3frame code --settings card --block 0 sent.ts -o frames",
     STATUS,
 ]))]
 pub struct Words {
@@ -90,16 +30,18 @@ pub enum Job {
     Code(CodeWords),
     Monitor(MonitorWords),
     Compare(CompareWords),
+    Settings(CardWords),
 }
 
 impl Job {
-    /// The word that names it.
+    /// The words that name it.
     pub fn name(&self) -> &'static str {
         match self {
             Job::Plan(_) => "plan",
             Job::Code(_) => "code",
             Job::Monitor(_) => "monitor",
             Job::Compare(_) => "compare",
+            Job::Settings(words) => words.job.name(),
         }
     }
 }
@@ -118,18 +60,41 @@ pub struct PlanWords {
     pub svg: Option<PathBuf>,
 }
 
-/// What coding and reading frames have in common.
+/// What coding and reading frames have in common: a setting, said in words or kept on a card.
 #[derive(Args)]
 pub struct SettingWords {
     /// The plan's file
     #[arg(long)]
-    pub plan: PathBuf,
-    /// The taps of the 25-bit dispersal register: a number with the weight 2^24, in decimal or behind 0x
-    #[arg(long, value_name = "M")]
-    pub mask: Number,
-    /// Where the register starts in each frame: a number from 1 to 2^25 - 1, in decimal or behind 0x
-    #[arg(long, value_name = "S")]
-    pub start: Number,
+    plan: Option<PathBuf>,
+    #[arg(long, value_name = "M", help = MASK)]
+    mask: Option<Number>,
+    #[arg(long, value_name = "S", help = START)]
+    start: Option<Number>,
+    /// A card's file, in place of --plan, --mask and --start; the TMCC blocks' register is not used
+    #[arg(long, value_name = "CARD")]
+    settings: Option<PathBuf>,
+    /// The number of the card's block, from 0; `s3frame settings --help` says what a card is
+    #[arg(long, value_name = "N")]
+    block: Option<Number>,
+}
+
+/// Where plan and register come from.
+#[derive(Debug)]
+pub enum Setting<'a> {
+    Said { plan: &'a Path, mask: &'a Number, start: &'a Number },
+    Kept { card: &'a Path, block: u32 },
+}
+
+impl SettingWords {
+    /// The setting; words for both kinds, or for a part of one, are wrong use.
+    pub fn setting(&self) -> Result<Setting<'_>, Failure> {
+        let SettingWords { plan, mask, start, settings, block } = self;
+        match (plan, mask, start, settings, block) {
+            (Some(plan), Some(mask), Some(start), None, None) => Ok(Setting::Said { plan, mask, start }),
+            (None, None, None, Some(card), Some(block)) => Ok(Setting::Kept { card, block: block.value }),
+            _ => Err(Failure::new("settings", "name either --plan, --mask and --start, or --settings and --block")),
+        }
+    }
 }
 
 /// Codes TS or TLV packets into frames
@@ -141,9 +106,10 @@ pub struct SettingWords {
 /// A packet that does not begin 0x47, or a TLV packet of another form, is refused. Where the packets end inside one, what
 /// came before it is coded.
 #[derive(Args)]
-#[command(after_long_help = page(&[PLAN_FORM, FRAME_FORM, TLV_FORM, STATUS,
+#[command(override_usage = usage("code"), after_long_help = page(&[PLAN_FORM, FRAME_FORM, TLV_FORM, STATUS,
     "EXAMPLE\n  s3frame code --plan plan.txt --mask 0x1234567 --start 1 sent.ts -o frames\n  \
-     s3frame code --tlv --plan one-group.txt --mask 0x1234567 --start 1 sent.tlv -o frames"]))]
+     s3frame code --tlv --plan one-group.txt --mask 0x1234567 --start 1 sent.tlv -o frames\n  \
+     s3frame code --settings card --block 0 sent.ts -o frames"]))]
 pub struct CodeWords {
     #[command(flatten)]
     pub settings: SettingWords,
@@ -176,9 +142,10 @@ pub struct CodeWords {
 ///
 /// Where the frames end inside one, those before it are read.
 #[derive(Args)]
-#[command(after_long_help = page(&[PLAN_FORM, FRAME_FORM, TLV_FORM, JSON_FORM, STATUS,
+#[command(override_usage = usage("monitor"), after_long_help = page(&[PLAN_FORM, FRAME_FORM, TLV_FORM, JSON_FORM, STATUS,
     "EXAMPLE\n  s3frame monitor --plan plan.txt --mask 0x1234567 --start 1 frames -o back.ts --svg slots.svg\n  \
-     s3frame monitor --tlv --plan one-group.txt --mask 0x1234567 --start 1 frames -o back.tlv"]))]
+     s3frame monitor --tlv --plan one-group.txt --mask 0x1234567 --start 1 frames -o back.tlv\n  \
+     s3frame monitor --settings card --block 0 frames -o back.ts"]))]
 pub struct MonitorWords {
     #[command(flatten)]
     pub settings: SettingWords,
@@ -220,6 +187,94 @@ pub struct CompareWords {
     pub received: PathBuf,
 }
 
+/// Lists, shows and replaces the settings that a card keeps in blocks
+///
+/// A setting is a plan and the masks and starts of two dispersal registers, that of the slots and that of the TMCC blocks.
+#[derive(Args)]
+#[command(after_long_help = page(&[CARD_FORM, STATUS,
+    "EXAMPLE\n  truncate -s 32768 card\n  s3frame settings set card 0 --plan plan.txt --mask 0x1234567 --start 1 \\\n      \
+     --tmcc-mask 0x4001 --tmcc-start 1\n  s3frame settings list card\n  s3frame settings show card 0"]))]
+pub struct CardWords {
+    #[command(subcommand)]
+    pub job: CardJob,
+}
+
+#[derive(Subcommand)]
+pub enum CardJob {
+    List(ListWords),
+    Show(ShowWords),
+    Set(SetWords),
+}
+
+impl CardJob {
+    /// The words that name it.
+    fn name(&self) -> &'static str {
+        match self {
+            CardJob::List(_) => "settings list",
+            CardJob::Show(_) => "settings show",
+            CardJob::Set(_) => "settings set",
+        }
+    }
+}
+
+/// Lists the blocks of a card
+///
+/// Writes a line for each block: its setting, or that it is empty, or number and word of its refusal. The last line says how
+/// many blocks there are of each kind. Refused blocks give the status 1, empty ones do not.
+#[derive(Args)]
+#[command(after_long_help = page(&[CARD_FORM, STATUS, "EXAMPLE\n  s3frame settings list card"]))]
+pub struct ListWords {
+    /// The card's file; - is standard input
+    pub card: PathBuf,
+}
+
+/// Shows a block of a card
+///
+/// The first line has the registers as options of `s3frame settings set`, the others are the plan's, as in its file.
+#[derive(Args)]
+#[command(after_long_help = page(&[CARD_FORM, STATUS,
+    "EXAMPLE\n  s3frame settings show card 0\n\n  # block 0 into block 1\n  \
+     s3frame settings show card 0 --plan plan.txt >registers\n  \
+     s3frame settings set card 1 --plan plan.txt $(cat registers)"]))]
+pub struct ShowWords {
+    /// The card's file; - is standard input
+    pub card: PathBuf,
+    /// The number of the block, from 0
+    #[arg(value_name = "N")]
+    pub block: Number,
+    /// Writes the plan into this file instead
+    #[arg(long, value_name = "FILE")]
+    pub plan: Option<PathBuf>,
+}
+
+/// Replaces a block of a card
+///
+/// Puts a setting into the block, whatever stands there, and tells it. The other blocks keep their octets.
+#[derive(Args)]
+#[command(after_long_help = page(&[PLAN_FORM, CARD_FORM, STATUS,
+    "EXAMPLE\n  s3frame settings set card 0 --plan plan.txt --mask 0x1234567 --start 1 \\\n      \
+     --tmcc-mask 0x4001 --tmcc-start 1"]))]
+pub struct SetWords {
+    /// The card's file, which is replaced
+    pub card: PathBuf,
+    /// The number of the block, from 0
+    #[arg(value_name = "N")]
+    pub block: Number,
+    /// The plan's file; - is standard input
+    #[arg(long)]
+    pub plan: PathBuf,
+    #[arg(long, value_name = "M", help = MASK)]
+    pub mask: Number,
+    #[arg(long, value_name = "S", help = START)]
+    pub start: Number,
+    /// The taps of the TMCC blocks' 15-bit dispersal register: a number with the weight 2^14, in decimal or behind 0x
+    #[arg(long, value_name = "M")]
+    pub tmcc_mask: Number,
+    /// Where the TMCC blocks' register starts: a number from 1 to 2^15 - 1, in decimal or behind 0x
+    #[arg(long, value_name = "S")]
+    pub tmcc_start: Number,
+}
+
 /// A number of at most 32 bits, with the word that said it.
 #[derive(Clone, Debug)]
 pub struct Number {
@@ -249,6 +304,51 @@ impl Display for Number {
 #[cfg(test)]
 mod tests {
     use super::*;
+    use clap::error::ErrorKind;
+
+    /// What the words of a setting name, by the command line.
+    fn setting(line: &str) -> Result<String, String> {
+        let words = line.split(' ').filter(|word| !word.is_empty());
+        let words =
+            Words::try_parse_from(["s3frame", "code"].into_iter().chain(words)).map_err(|error| error.to_string())?;
+        match words.job {
+            Job::Code(words) => words.settings.setting().map(|of| format!("{of:?}")).map_err(|wrong| wrong.to_string()),
+            _ => unreachable!("the job is code"),
+        }
+    }
+
+    #[test]
+    fn a_setting_is_said_or_kept() {
+        let words = ["--plan p", "--mask 1", "--start 2", "--settings c", "--block 3"];
+        for named in 0..1 << words.len() {
+            let line: Vec<&str> =
+                (0..words.len()).filter(|word| named >> word & 1 == 1).map(|word| words[word]).collect();
+            let found = setting(&line.join(" "));
+            match named {
+                0b00111 => assert!(found.expect("a plan and a register").starts_with("Said")),
+                0b11000 => assert!(found.expect("a card and a block").starts_with("Kept")),
+                _ => assert_eq!(
+                    found.expect_err("neither, or parts"),
+                    "settings: name either --plan, --mask and --start, or --settings and --block"
+                ),
+            }
+        }
+    }
+
+    #[test]
+    fn all_of_a_setting_is_set() {
+        let words = ["--plan", "--mask", "--start", "--tmcc-mask", "--tmcc-start"];
+        let parsed = |left_out: usize| {
+            let named =
+                words.iter().enumerate().filter(|(word, _)| *word != left_out).flat_map(|(_, word)| [*word, "1"]);
+            Words::try_parse_from(["s3frame", "settings", "set", "card", "0"].into_iter().chain(named))
+        };
+        assert!(parsed(words.len()).is_ok());
+        for left_out in 0..words.len() {
+            let error = parsed(left_out).err().expect("a word is missing");
+            assert_eq!(error.kind(), ErrorKind::MissingRequiredArgument);
+        }
+    }
 
     #[test]
     fn numbers_in_decimal_or_behind_0x() {
