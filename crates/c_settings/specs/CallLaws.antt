@@ -1,6 +1,5 @@
 -- Laws of the calls for C on settings: what reading answers fits its area; five numbers set are the area.
-use mathlib.Core.Path.{_≡_, refl, sym, _∙_}
-use mathlib.Core.Bool.{true}
+use mathlib.Core.Path.{_≡_, refl}
 use mathlib.Core.List.{List, [], _∷_}
 use Prim.Native.Nat.{ℕ}
 use native.Mathlib.Decide.{ℕ-discrete}
@@ -8,14 +7,14 @@ use native.Mathlib.Omega.{arith}
 use borrow.Author.Tests.{eq-eqb, ne-eqb}
 use lib.Dec.{eqb}
 use lib.ListN.{length, set}
-use Rattle.lists.specs.Choice.{pick, andThen}
+use Rattle.lists.specs.Choice.{pick}
 use Rattle.lists.specs.ChoiceLaws.{then-zero}
 use Rattle.refusal.specs.Numbers.{LENGTH, BLOCK}
 use Rattle.plan.specs.Records.{noPlan}
 use Rattle.plan_octets.specs.Needs.{Fits}
 use Rattle.plan_octets.specs.GroupLaws.{none-fits, accepted-fits}
 use Rattle.settings.specs.Layout.{edition}
-use Rattle.settings.specs.Blocks.{planIn, registersIn, blockOk, settingNumber, blockNumber}
+use Rattle.settings.specs.Blocks.{planIn, registersIn, blockOk, blockNumber}
 use Rattle.settings.specs.BlockLaws.{sound}
 use Rattle.settings.specs.Cards.{cardNumber, blockAt, readNumber}
 use Rattle.c_settings.specs.Calls.{areasOk, readCall, readAnswered}

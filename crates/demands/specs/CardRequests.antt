@@ -101,6 +101,17 @@ OldUnseen =
     → drop (settingOctets * n + settingOctets) a ≡ drop (settingOctets * n + settingOctets) b
     → (replaceNumber (length a) n p r ≡ replaceNumber (length b) n p r) × (replaced a n p r ≡ replaced b n p r)
 
+-- "wrong .. sum": a block of which one octet is another is refused
+abbrev pub OneOctetRefused : Type 0
+OneOctetRefused =
+    (card : List ℕ) (n k x : ℕ)
+    → Octets card
+    → readNumber card n ≡ 0
+    → k < settingOctets
+    → x < 256
+    → (x ≡ getD card (settingOctets * n + k) 0 → ⊥)
+    → readNumber (set card (settingOctets * n + k) x) n ≡ BLOCK
+
 -- a block worked by hand: two groups, 290 + 1 + 2 + 136 + 208 + 1 + 65 + 382 = 1085 = 4 * 256 + 61
 abbrev pub WorkedBlock : Type 0
 WorkedBlock =

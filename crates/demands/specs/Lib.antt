@@ -1,8 +1,10 @@
 pub mod Statements
 pub mod Requests
+pub mod CardRequests
 pub mod DemandTwo
 pub mod DemandThree
 pub mod WorkedByHand
 pub mod PlanRules
 pub mod TlvRules
 pub mod ParitySteps
+pub mod CardRules

@@ -10,8 +10,8 @@ use native.Mathlib.Numerals.{add-one}
 use native.Mathlib.Omega.{arith}
 use borrow.Author.Tests.{lt-ltb, le-ltb, ltb-true, ltb-false}
 use lib.Dec.{ltb}
-use lib.ListN.{length, getD, drop, length-append, length-drop, List·getD-append}
-use lib.Seq.{ext-getD, getD-at, take-append-le, drop-append-le, take-all, drop-at}
+use lib.ListN.{length, getD, drop, set, length-append, length-drop, List·getD-append}
+use lib.Seq.{ext-getD, getD-at, getD-set-same, getD-set-other, take-append-le, drop-append-le, take-all, drop-at}
 use Rattle.lists.specs.Choice.{pick}
 use Rattle.lists.specs.ChoiceLaws.{and-left, and-right, and-both, false-of, clash, same-test}
 use Rattle.lists.specs.Count.{sum, every, first, table, joined}
@@ -65,6 +65,22 @@ sum-only (suc n) k f h z = go (ℕ-discrete k n) (λ l. sum-only n k f l (λ i j
         let s : sum n f ≡ n * 0 = sum-each n 0 f (λ i l. z i (omega arith) (λ d. absurd (omega arith))) in
         rw e (omega arith)
     go (no d) below = omega (arith, below (omega arith), z n (omega arith) (λ e. d (sym e)))
+
+-- a sum of which one term is set
+pub sum-set : (n k x : ℕ) (xs : List ℕ) → k < n → n ≤ length xs → sum n (λ i. getD (set xs k x) i 0) + getD xs k 0 ≡ sum n (λ i. getD xs i 0) + x
+unfolding sum
+sum-set zero k x xs h l = absurd (omega arith)
+sum-set (suc n) k x xs h l = go (ℕ-discrete k n) (λ j. sum-set n k x xs j (omega arith))
+  where
+    go : Dec (k ≡ n) → (k < n → sum n (λ i. getD (set xs k x) i 0) + getD xs k 0 ≡ sum n (λ i. getD xs i 0) + x)
+        → sum n (λ i. getD (set xs k x) i 0) + getD (set xs k x) n 0 + getD xs k 0 ≡ sum n (λ i. getD xs i 0) + getD xs n 0 + x
+    go (yes e) _ =
+        let same = sum-same n (λ i. getD (set xs k x) i 0) (λ i. getD xs i 0) (λ i j. getD-set-other xs k i x 0 (λ d. omega (arith, d, e, j))) in
+        let there : getD (set xs k x) n 0 ≡ x = rw (sym e) (getD-set-same xs k x 0 (omega arith)) in
+        let found : getD xs n 0 ≡ getD xs k 0 = ap (λ (i : ℕ). getD xs i 0) (sym e) in
+        omega (arith, same, there, found)
+    go (no d) below =
+        omega (arith, below (omega arith), getD-set-other xs k n x 0 (λ e. d (sym e)))
 
 pub every-none : (f : ℕ → Bool) → every 0 f ≡ true
 unfolding every

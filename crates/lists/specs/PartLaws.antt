@@ -5,7 +5,7 @@ use Prim.Native.Nat.{ℕ, _+_, _-_, _<_, _≤_}
 use native.Mathlib.Omega.{arith}
 use native.Mathlib.Numerals.{add-one}
 use lib.ListN.{length, take, drop, set, length-append, length-drop, drop-of-length-le, take-append-drop}
-use lib.Seq.{length-take-le, take-at, drop-at, take-all, drop-drop, set-split}
+use lib.Seq.{length-take-le, take-at, drop-at, take-all, take-append-le, drop-append-le, drop-drop, set-split}
 use borrow.Rule.Slice.PartMut.{putMid, post-is}
 use Rattle.lists.specs.Parts.{part, put}
 
@@ -41,6 +41,27 @@ drop-put a ys xs h =
     let t : length (take a xs) ≡ a = length-take-le a xs h in
     let m : length (take a xs ++ ys) ≡ a + length ys = length-append (take a xs) ys ∙ omega arith in
     rw (← append-assoc (take a xs) ys (drop (a + length ys) xs)) (drop-at (take a xs ++ ys) (drop (a + length ys) xs) (a + length ys) m)
+
+-- a part of the first of two lists
+part-front : (a e : ℕ) (xs ys : List ℕ) → e ≤ length xs → a ≤ e → part a e (xs ++ ys) ≡ part a e xs
+part-front a e xs ys h k =
+    ap (take (e - a)) (drop-append-le a xs ys (omega arith)) ∙ take-append-le (e - a) (drop a xs) ys (rw length-drop (omega arith))
+
+-- a part before what was put stays, and so does one behind it
+pub part-before : (a e p : ℕ) (ys xs : List ℕ) → a ≤ e → e ≤ p → p ≤ length xs → part a e (put p ys xs) ≡ part a e xs
+unfolding put
+part-before a e p ys xs h k l =
+    let t : length (take p xs) ≡ p = length-take-le p xs l in
+    part-front a e (take p xs) _ (omega arith) h
+    ∙ sym (part-front a e (take p xs) (drop p xs) (omega arith) h)
+    ∙ ap (part a e) (take-append-drop p xs)
+
+pub part-behind : (a e p : ℕ) (ys xs : List ℕ) → p ≤ length xs → p + length ys ≤ a → part a e (put p ys xs) ≡ part a e xs
+part-behind a e p ys xs h k =
+    let n : p + length ys + (a - (p + length ys)) ≡ a = omega arith in
+    let d : (zs : List ℕ) → drop a zs ≡ drop (a - (p + length ys)) (drop (p + length ys) zs)
+    = λ zs. ap (λ (i : ℕ). drop i zs) (sym n) ∙ sym (drop-drop (a - (p + length ys)) (p + length ys) zs) in
+    ap (take (e - a)) (d (put p ys xs) ∙ ap (drop (a - (p + length ys))) (drop-put p ys xs h) ∙ sym (d xs))
 
 -- two lists put one behind the other are one list put
 pub put-put : (a : ℕ) (ys zs xs : List ℕ) → a ≤ length xs → put (a + length ys) zs (put a ys xs) ≡ put a (ys ++ zs) xs

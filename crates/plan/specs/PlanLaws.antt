@@ -10,7 +10,6 @@ use lib.Dec.{leb, eqb}
 use Rattle.lists.specs.Choice.{pick, andThen}
 use Rattle.lists.specs.ChoiceLaws.{and-left, and-right, then-zero, not-refused}
 use Rattle.refusal.specs.Numbers.{PLAN, VALUE, ORDER, TOTAL}
-use Rattle.lists.specs.Count.{every}
 use Rattle.lists.specs.CountLaws.{sum-none, sum-more, sum-mono, sum-same, every-at, every-same}
 use Rattle.plan.specs.declared.Plan.{Plan}
 use Rattle.plan.specs.Rates.{rateOk, modulationOk}

@@ -1,6 +1,5 @@
 -- Laws of plans as octets: lengths, which plans fit, and there and back.
-use mathlib.Core.Path.{_≡_, refl, sym, ap, ap₂, _∙_}
-use mathlib.Core.Bool.{Bool, true, false}
+use mathlib.Core.Path.{_≡_, refl, sym, ap, _∙_}
 use mathlib.Core.List.{List, [], _∷_}
 use Prim.Native.Nat.{ℕ, zero, suc, _+_, _*_, _-_, _/_, _%_, _<_, _≤_}
 use native.Mathlib.Omega.{arith}
@@ -15,7 +14,6 @@ use Rattle.lists.specs.Count.{table, joined}
 use Rattle.lists.specs.CountLaws.{getD-table, joined-same}
 use Rattle.lists.specs.Parts.{part}
 use Rattle.lists.specs.Pieces.{length-pieces, pieces-at, pieces-whole}
-use Rattle.lists.specs.Runs.{Octets}
 use Rattle.plan.specs.declared.Plan.{Plan}
 use Rattle.plan.specs.Records.{noPlan}
 use Rattle.plan.specs.RateLaws.{between}

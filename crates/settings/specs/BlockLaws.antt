@@ -1,13 +1,13 @@
 -- Laws of blocks: what stands in the fields of one that is written; written and read again; read and written again.
 use mathlib.Core.Path.{_≡_, refl, sym, ap, ap₂, _∙_}
-use mathlib.Core.Bool.{Bool, true, _&&_}
-use mathlib.Core.List.{List, [], _∷_, _++_, append-nil, append-assoc}
-use Prim.Native.Nat.{ℕ, zero, suc, _+_, _*_, _-_, _^_, _<_, _≤_}
+use mathlib.Core.Bool.{true}
+use mathlib.Core.List.{List, _++_, append-assoc}
+use Prim.Native.Nat.{ℕ, _+_, _*_, _-_, _^_, _<_, _≤_}
 use native.Mathlib.Omega.{arith}
-use borrow.Author.Tests.{eq-eqb, eqb-true, leb-true, ltb-true}
-use lib.Dec.{eqb, leb, ltb}
-use lib.ListN.{length, getD, take, drop, replicate, length-append, drop-of-length-le, take-append-drop}
-use lib.Seq.{take-at, drop-drop, getD-drop, getD-take, take-length}
+use borrow.Author.Tests.{eq-eqb, eqb-true, ltb-true}
+use lib.Dec.{eqb, leb}
+use lib.ListN.{length, getD, take, drop, replicate, drop-of-length-le, take-append-drop}
+use lib.Seq.{take-at, drop-drop, getD-drop}
 use Rattle.lists.specs.Choice.{pick}
 use Rattle.lists.specs.ChoiceLaws.{and-left, and-right, then-zero, not-refused}
 use Rattle.lists.specs.Count.{joined}
@@ -25,11 +25,11 @@ use Rattle.plan.specs.Sizes.{slotWidth, blockWidth}
 use Rattle.plan.specs.Plans.{planNumber}
 use Rattle.plan.specs.PlanLaws.{accepted}
 use Rattle.plan_octets.specs.Groups.{ofOctets, groupOf, groupsOf, unusedZero}
-use Rattle.plan_octets.specs.GroupLaws.{length-groupsOf, read-written, written-read, unused-zeros, unused-same}
+use Rattle.plan_octets.specs.GroupLaws.{read-written, written-read, unused-zeros, unused-same}
 use Rattle.settings.specs.declared.Registers.{Registers}
 use Rattle.settings.specs.Layout.{Field, layout, mark, settingOctets}
 use Rattle.settings.specs.Numbers.{bigEndian, numberOf, sumOf, allZero}
-use Rattle.settings.specs.NumberLaws.{length-bigEndian, number-written, written-number, sum-below, zeros-zero, zero-all, zero-at, zero-replicate}
+use Rattle.settings.specs.NumberLaws.{number-written, written-number, sum-below, zeros-zero, zero-all, zero-at, zero-replicate}
 use Rattle.settings.specs.Blocks.{planOctets, headOctets, registerOctets, body, blockOf, fieldIn, numberIn, planIn, registersIn, unusedIn, blockOk, registersOk, settingNumber, blockNumber}
 
 pub length-plan : (e : ℕ) (p : Plan) → length (planOctets e p) ≡ 25

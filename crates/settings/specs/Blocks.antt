@@ -3,7 +3,7 @@ use mathlib.Core.Bool.{Bool, _&&_}
 use mathlib.Core.List.{List, _++_}
 use Prim.Native.Nat.{ℕ, _+_, _*_}
 use lib.Dec.{eqb}
-use lib.ListN.{length, take, drop, replicate}
+use lib.ListN.{take, drop, replicate}
 use Rattle.lists.specs.Choice.{pick, andThen}
 use Rattle.lists.specs.Parts.{part}
 use Rattle.refusal.specs.Numbers.{REGISTER, BLOCK}

@@ -5,4 +5,5 @@ pub mod Blocks
 pub mod BlockLaws
 pub mod Cards
 pub mod CardLaws
+pub mod TurnedLaws
 pub mod Needs

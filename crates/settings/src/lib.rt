@@ -2,7 +2,7 @@
 ghost use mathlib.Core.Path.{_≡_};
 ghost use lib.ListN.{length};
 ghost use Rattle.refusal.specs.Answers.{Answered};
-ghost use Rattle.settings.specs.Cards.{answer, cardOk, cardNumber, readAnswer, replaceNumber, replaced};
+ghost use Rattle.settings.specs.Cards.{cardOk, cardNumber, readAnswer, replaceNumber, replaced};
 use plan::Plan;
 
 mod blocks;

@@ -1,10 +1,8 @@
 -- `c_settings::read_settings`: both areas hold what was answered, and so does the number.
-use mathlib.Core.Path.{_≡_, ap, _∙_}
-use mathlib.Core.List.{List}
+use mathlib.Core.Path.{ap, _∙_}
 use borrow.Author.Needs.{needs}
 use Rattle.settings.specs.declared.SettingsAnswer.{SettingsAnswer}
-use Rattle.plan_octets.specs.Needs.{Fits}
-use Rattle.c_settings.specs.Calls.{readCall, readAnswered, planLeft, settingsLeft}
+use Rattle.c_settings.specs.Calls.{planLeft, settingsLeft}
 use Rattle.c_settings.specs.CallLaws.{answered-fits, answered-number}
 use Rattle.c_settings.proofs.read_settings.Statement.{statement}
 use Rattle.c_settings.proofs.read_settings.Tie as tie

@@ -1,6 +1,5 @@
 -- `plan_octets::put_group`: three octets stored are all of the area; they fit, or are zeros.
 use mathlib.Core.Path.{sym, _∙_}
-use native.Mathlib.Omega.{arith}
 use borrow.Author.Needs.{needs}
 use Rattle.plan_octets.specs.GroupLaws.{three-set, group-used, group-unused}
 use Rattle.plan_octets.proofs.put_group.Statement.{statement}

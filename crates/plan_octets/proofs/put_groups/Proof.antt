@@ -1,9 +1,8 @@
 -- `plan_octets::put_groups`: the area is filled group by group.
-use mathlib.Core.Path.{_≡_, sym, ap, _∙_}
+use mathlib.Core.Path.{_≡_, sym, _∙_}
 use mathlib.Core.List.{List}
 use Prim.Native.Nat.{ℕ, _+_, _*_, _-_, _≤_}
 use native.Mathlib.Omega.{arith}
-use lib.ListN.{length}
 use borrow.Author.Needs.{needs}
 use Rattle.lists.specs.Filling.{Filling}
 use Rattle.lists.specs.FillingLaws.{filling-none, filling-part, filling-all}

@@ -1,13 +1,12 @@
 -- `settings::read_settings`: the number of the card, then the block, which lies within it.
-use mathlib.Core.Path.{_≡_, sym, _∙_}
-use Prim.Native.Nat.{ℕ, _+_, _*_}
+use mathlib.Core.Path.{sym, _∙_}
+use Prim.Native.Nat.{_+_, _*_}
 use native.Mathlib.Omega.{arith}
 use borrow.Author.Needs.{needs}
 use borrow.Author.Tests.{ne-eqb}
 use lib.ListN.{length}
-use Rattle.lists.specs.ChoiceLaws.{then-first, then-next}
 use Rattle.lists.specs.PartLaws.{length-part}
-use Rattle.settings.specs.Cards.{cardNumber, blockAt, readNumber, readAnswer}
+use Rattle.settings.specs.Cards.{readNumber, readAnswer}
 use Rattle.settings.specs.CardLaws.{There, there}
 use Rattle.settings.proofs.read_settings.Statement.{statement}
 use Rattle.settings.proofs.read_settings.Tie as tie

@@ -3,10 +3,10 @@ use mathlib.Core.Path.{_≡_, ap, ap₂, _∙_}
 use mathlib.Core.List.{List, _++_}
 use Prim.Native.Nat.{ℕ}
 use native.Mathlib.Omega.{arith}
-use lib.ListN.{length, take}
+use lib.ListN.{length}
 use lib.Seq.{take-at}
 use borrow.Author.Needs.{needs}
-use borrow.Rule.Slice.PartMut.{putMid, postOf}
+use borrow.Rule.Slice.PartMut.{putMid}
 use Rattle.lists.specs.PartLaws.{length-part, two-parts}
 use Rattle.settings.specs.Layout.{edition}
 use Rattle.settings.specs.Numbers.{bigEndian, sumOf}

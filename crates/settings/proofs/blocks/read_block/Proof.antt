@@ -1,11 +1,9 @@
 -- `settings::read_block`: its tests, then those of plan and registers; zeros where one refuses.
 use mathlib.Core.Path.{_≡_, sym, ap₂, _∙_}
-use mathlib.Core.List.{List}
-use Prim.Native.Nat.{ℕ}
 use borrow.Author.Needs.{needs}
 use borrow.Author.Tests.{eq-eqb, ne-eqb}
 use Rattle.settings.specs.Layout.{edition}
-use Rattle.settings.specs.Blocks.{planIn, registersIn, settingNumber, blockNumber}
+use Rattle.settings.specs.Blocks.{settingNumber, blockNumber}
 use Rattle.settings.proofs.blocks.read_block.Statement.{statement}
 use Rattle.settings.proofs.blocks.read_block.Tie as tie
 
