@@ -2,6 +2,8 @@
 ghost use mathlib.Core.List.{_++_};
 ghost use mathlib.Core.Path.{_≡_};
 ghost use lib.ListN.{length};
+ghost use Rattle.lists.specs.Choice.{pick, andThen};
+ghost use Rattle.refusal.specs.Numbers.{REGISTER};
 ghost use Rattle.settings.specs.Layout.{settingOctets, edition};
 ghost use Rattle.settings.specs.Blocks.{planOctets, headOctets, registerOctets, body, blockOf, planIn, registersIn, unusedIn, blockOk, registersOk, settingNumber, blockNumber};
 ghost use Rattle.settings.specs.Numbers.{bigEndian, allZero};
@@ -115,6 +117,16 @@ fn registers_in(block: &[u8]) -> Registers
     Registers { slots, tmcc }
 }
 
+// The first of two numbers that refuses, or 0.
+pub fn first_refusal(a: u8, b: u8) -> u8
+    ensures { λ r. ⌜ r ≡ andThen a b ⌝ }
+{
+    if a != 0 {
+        return a;
+    }
+    b
+}
+
 fn registers_ok(registers: Registers) -> bool
     ensures { λ r. ⌜ r ≡ registersOk registers ⌝ }
 {
@@ -126,18 +138,22 @@ fn registers_ok(registers: Registers) -> bool
     false
 }
 
-// The refusal of plan or registers, or 0.
-pub fn setting_number(plan: Plan, registers: Registers) -> u8
-    ensures { λ r. ⌜ r ≡ settingNumber plan registers ⌝ }
+fn registers_number(registers: Registers) -> u8
+    ensures { λ r. ⌜ r ≡ pick (registersOk registers) 0 REGISTER ⌝ }
 {
-    let number = plan::plan_number(plan);
-    if number != 0 {
-        return number;
-    }
     if registers_ok(registers) {
         return 0;
     }
     refusal::REGISTER
+}
+
+// The refusal of plan or registers, or 0.
+pub fn setting_number(plan: Plan, registers: Registers) -> u8
+    ensures { λ r. ⌜ r ≡ settingNumber plan registers ⌝ }
+{
+    let of_plan = plan::plan_number(plan);
+    let of_registers = registers_number(registers);
+    first_refusal(of_plan, of_registers)
 }
 
 // Reads a block.

@@ -73,11 +73,9 @@ pub fn read_settings(card: &[u8], number: usize) -> SettingsAnswer
 fn replace_number(octets: usize, number: usize, plan: Plan, registers: Registers) -> u8
     ensures { λ r. ⌜ r ≡ replaceNumber octets number plan registers ⌝ }
 {
-    let refused = card_number(octets, number);
-    if refused != 0 {
-        return refused;
-    }
-    blocks::setting_number(plan, registers)
+    let of_card = card_number(octets, number);
+    let of_setting = blocks::setting_number(plan, registers);
+    blocks::first_refusal(of_card, of_setting)
 }
 
 // Replaces a block, whatever it holds.

@@ -1,26 +1,14 @@
--- `settings::setting_number`: each way out rewrites with the tests on the way to it.
-use mathlib.Core.Path.{sym, _∙_}
+-- `settings::setting_number`: that of the plan, then that of the registers.
+use mathlib.Core.Path.{ap₂, _∙_}
 use borrow.Author.Needs.{needs}
-use borrow.Author.Tests.{ne-eqb}
+use Rattle.lists.specs.Choice.{andThen}
 use Rattle.settings.specs.Blocks.{settingNumber}
 use Rattle.settings.proofs.blocks.setting_number.Statement.{statement}
 use Rattle.settings.proofs.blocks.setting_number.Tie as tie
 
 returns : tie.Need-returns
 unfolding settingNumber
-returns c = rw (← c .before .plan-number .ensures, ne-eqb _ 0 (c .if1 .taken))
-
-returns-2 : tie.Need-returns-2
-unfolding settingNumber
-returns-2 c =
-    let b = c .before .before in
-    rw (← b .before .plan-number .ensures, b .if1 .left, sym (c .before .registers-ok .ensures) ∙ c .if2 .taken)
-
-returns-3 : tie.Need-returns-3
-unfolding settingNumber
-returns-3 c =
-    let b = c .before .before in
-    rw (← b .before .plan-number .ensures, b .if1 .left, sym (c .before .registers-ok .ensures) ∙ c .if2 .left)
+returns c = c .first-refusal .ensures ∙ ap₂ andThen (c .before .before .plan-number .ensures) (c .before .registers-number .ensures)
 
 pub setting-number-spec : {M : Type 1} → statement M
-setting-number-spec = tie.close (tie.spec (λ c κs. search needs) returns (λ c κs. search needs) returns-2 returns-3)
+setting-number-spec = tie.close (tie.spec (λ c κs. search needs) (λ c κs. search needs) (λ c κs. search needs) returns)
