@@ -17,10 +17,11 @@ use Rattle.settings.specs.declared.Registers.{Registers}
 use Rattle.settings.specs.Layout.{Field, layout, mark}
 use Rattle.settings.specs.Numbers.{bigEndian, numberOf, sumOf, allZero}
 
--- "`S3PL`, edition 1 and group count in one octet each, eight groups"
+-- "group count in one octet .., eight groups"
 abbrev pub planOctets : ℕ → Plan → List ℕ
 planOctets e p = bigEndian (layout e .count .octets) (p .count) ++ groupsOf p
 
+-- "`S3PL`, edition 1", and these
 abbrev pub headOctets : ℕ → Plan → List ℕ
 headOctets e p = mark ++ (bigEndian (layout e .edition .octets) e ++ planOctets e p)
 
@@ -36,7 +37,7 @@ registerOctets e r =
 unfoldable pub body : ℕ → Plan → Registers → List ℕ
 body e p r = headOctets e p ++ (registerOctets e r ++ replicate (layout e .zeros .octets) 0)
 
--- the block of plan and registers: "last two octets the sum of the 510 before them"
+-- the block of plan and registers: "last two octets the sum of the 510 before them modulo 65536"
 unfoldable pub blockOf : ℕ → Plan → Registers → List ℕ
 blockOf e p r = body e p r ++ bigEndian (layout e .sum .octets) (sumOf (body e p r))
 

@@ -26,7 +26,7 @@ pub record Layout : Type 0 where
   pub zeros : Field
   pub sum : Field
 
--- the layout of an edition: "`S3PL`, edition 1 and group count in one octet each, eight groups .., then four 4-octet numbers:
+-- the layout of an edition, of which there is 1: "`S3PL`, edition 1 and group count in one octet each, eight groups .., then four 4-octet numbers:
 -- slot mask, slot start, TMCC mask, TMCC start; then zeros; last two octets the sum"
 abbrev pub layout : ℕ → Layout
 layout e =
