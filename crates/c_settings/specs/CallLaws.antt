@@ -13,9 +13,9 @@ use Rattle.refusal.specs.Numbers.{LENGTH, BLOCK}
 use Rattle.plan.specs.Records.{noPlan}
 use Rattle.plan_octets.specs.Needs.{Fits}
 use Rattle.plan_octets.specs.GroupLaws.{none-fits, accepted-fits}
-use Rattle.settings.specs.Layout.{edition}
-use Rattle.settings.specs.Blocks.{planIn, registersIn, blockOk, blockNumber}
-use Rattle.settings.specs.BlockLaws.{sound}
+use Rattle.setting_block.specs.Layout.{edition}
+use Rattle.setting_block.specs.Blocks.{planIn, registersIn, blockOk, blockNumber}
+use Rattle.setting_block.specs.BlockLaws.{sound}
 use Rattle.settings.specs.Cards.{cardNumber, blockAt, readNumber}
 use Rattle.c_settings.specs.Calls.{areasOk, readCall, readAnswered}
 

@@ -11,11 +11,11 @@ use Rattle.refusal.specs.Numbers.{LENGTH}
 use Rattle.refusal.specs.Answers.{Answered}
 use Rattle.plan.specs.declared.Plan.{Plan}
 use Rattle.plan_octets.specs.Groups.{groupsOf}
-use Rattle.settings.specs.declared.Registers.{Registers}
-use Rattle.settings.specs.declared.SettingsAnswer.{SettingsAnswer}
-use Rattle.settings.specs.Layout.{edition}
-use Rattle.settings.specs.Blocks.{planIn, registersIn}
-use Rattle.settings.specs.Cards.{blockAt, readNumber, replaceNumber, replaced, answer}
+use Rattle.setting_block.specs.declared.Registers.{Registers}
+use Rattle.setting_block.specs.declared.SettingsAnswer.{SettingsAnswer}
+use Rattle.setting_block.specs.Layout.{edition}
+use Rattle.setting_block.specs.Blocks.{planIn, registersIn, answer}
+use Rattle.settings.specs.Cards.{blockAt, readNumber, replaceNumber, replaced}
 use Rattle.c_boundary.specs.Plans.{planOf}
 
 -- "plan: 24 octets .. settings: 5 numbers"

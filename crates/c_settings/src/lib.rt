@@ -3,19 +3,19 @@ ghost use mathlib.Core.Path.{_≡_};
 ghost use lib.ListN.{length};
 ghost use Rattle.plan_octets.specs.Needs.{Fits};
 ghost use Rattle.c_settings.specs.Calls.{readAnswered, planLeft, numbersOf, settingsLeft, Received, registersOf, Replaced};
-use settings::Register;
-use settings::Registers;
-use settings::SettingsAnswer;
+use setting_block::Register;
+use setting_block::Registers;
+use setting_block::SettingsAnswer;
 
 // Reads a block where both areas have their lengths.
 fn answered(card: &[u8], number: usize, plan: usize, numbers: usize) -> SettingsAnswer
     ensures { λ r. ⌜ r ≡ readAnswered (now (card .entry)) number plan numbers ⌝ }
 {
     if plan != 24 {
-        return settings::no_settings(refusal::LENGTH);
+        return setting_block::no_settings(refusal::LENGTH);
     }
     if numbers != 5 {
-        return settings::no_settings(refusal::LENGTH);
+        return setting_block::no_settings(refusal::LENGTH);
     }
     settings::read_settings(card, number)
 }

@@ -13,11 +13,11 @@ use Rattle.plan.specs.declared.Plan.{Plan}
 use Rattle.plan.specs.Records.{ofColumns, noPlan}
 use Rattle.plan.specs.Plans.{planNumber}
 use Rattle.plan_octets.specs.Groups.{unusedZero}
-use Rattle.settings.specs.declared.Registers.{Registers}
-use Rattle.settings.specs.Layout.{settingOctets, layout, mark, edition}
-use Rattle.settings.specs.Numbers.{sumOf}
-use Rattle.settings.specs.Blocks.{blockOf, fieldIn, numberIn, planIn, registersIn, unusedIn, blockOk, registersOk, settingNumber}
-use Rattle.settings.specs.Cards.{cardOk, cardNumber, blockAt, readNumber, noRegisters, readAnswer, replaceNumber, replaced}
+use Rattle.setting_block.specs.declared.Registers.{Registers}
+use Rattle.setting_block.specs.Layout.{settingOctets, layout, mark, edition}
+use Rattle.octet_numbers.specs.Numbers.{sumOf}
+use Rattle.setting_block.specs.Blocks.{blockOf, fieldIn, numberIn, planIn, registersIn, unusedIn, blockOk, registersOk, settingNumber, noRegisters}
+use Rattle.settings.specs.Cards.{cardOk, cardNumber, blockAt, readNumber, readAnswer, replaceNumber, replaced}
 
 -- "A card area holds up to 64 whole blocks (else 4)", and "17 block (number past the area ..), tested after 4"
 pub record CardRefused (octets n : ℕ) : Type 0 where

@@ -20,16 +20,16 @@ use Rattle.bits.specs.Octets.{octetsOf}
 use Rattle.plan.specs.declared.Plan.{Plan}
 use Rattle.plan.specs.Plans.{planNumber}
 use Rattle.plan_octets.specs.Groups.{groupOf, groupsOf}
-use Rattle.settings.specs.declared.Registers.{Registers}
-use Rattle.settings.specs.declared.SettingsAnswer.{SettingsAnswer}
-use Rattle.settings.specs.Layout.{settingOctets, layout, edition}
-use Rattle.settings.specs.Numbers.{bigEndian, sumOf}
-use Rattle.settings.specs.NumberLaws.{zero-at}
-use Rattle.settings.specs.Blocks.{body, blockOf, fieldIn, planIn, registersIn, unusedIn, blockOk, settingNumber, blockNumber}
-use Rattle.settings.specs.BlockLaws.{length-block, right, plan-back, registers-back, number-back, accepted-again}
+use Rattle.setting_block.specs.declared.Registers.{Registers}
+use Rattle.setting_block.specs.declared.SettingsAnswer.{SettingsAnswer}
+use Rattle.setting_block.specs.Layout.{settingOctets, layout, edition}
+use Rattle.octet_numbers.specs.Numbers.{bigEndian, sumOf}
+use Rattle.octet_numbers.specs.NumberLaws.{zero-at}
+use Rattle.setting_block.specs.Blocks.{body, blockOf, fieldIn, planIn, registersIn, unusedIn, blockOk, settingNumber, blockNumber}
+use Rattle.setting_block.specs.BlockLaws.{length-block, right, plan-back, registers-back, number-back, accepted-again}
 use Rattle.settings.specs.Cards.{cardOk, cardNumber, blockAt, readNumber, readAnswer, replaceNumber, replaced}
-use Rattle.settings.specs.CardLaws.{There, there, length-replaced, block-replaced, other-kept, length-blockAt, put-same}
-use Rattle.settings.specs.TurnedLaws.{turned-wrong, block-set}
+use Rattle.settings.specs.CardLaws.{There, there, length-replaced, block-replaced, other-kept, length-blockAt, put-same, block-set}
+use Rattle.setting_block.specs.TurnedLaws.{turned-wrong}
 use Rattle.demands.specs.CardRequests.{CardRefused, WrongRefused, SettingRefused, ReadRefused, ReplaceRefused, SettingsRefused, ReplacedRead, ReadReplaced, OthersKept, Written, AcceptedWritten, OldUnseen, OneOctetRefused, WorkedBlock}
 
 card-refused : (octets n : ℕ) → CardRefused octets n

@@ -1,13 +1,13 @@
 -- Laws of cards: where a block lies, and what a replacement leaves.
-use mathlib.Core.Path.{_≡_, _∙_}
+use mathlib.Core.Path.{_≡_, ap, _∙_}
 use mathlib.Core.List.{List}
-use Prim.Native.Nat.{ℕ, _+_, _*_, _/_, _%_, _<_, _≤_}
+use Prim.Native.Nat.{ℕ, _+_, _*_, _-_, _/_, _%_, _<_, _≤_}
 use native.Mathlib.Decide.{ℕ-discrete, decLt}
 use native.Mathlib.Omega.{arith}
 use borrow.Author.Tests.{eqb-true, leb-true, ltb-true}
 use lib.Dec.{eqb, ltb}
-use lib.ListN.{length, take}
-use lib.Seq.{length-take-le}
+use lib.ListN.{length, take, drop, set}
+use lib.Seq.{length-take-le, take-set-lt, drop-set-add}
 use Rattle.lists.specs.Choice.{pick}
 use Rattle.lists.specs.ChoiceLaws.{and-left, and-right, then-zero, not-refused}
 use Rattle.lists.specs.Parts.{put}
@@ -15,10 +15,10 @@ use Rattle.lists.specs.PartLaws.{length-part, length-put, part-before, part-beh
 use Rattle.lists.specs.ThreeRuns.{second-of-three, three-whole}
 use Rattle.refusal.specs.Numbers.{LENGTH, BLOCK}
 use Rattle.plan.specs.declared.Plan.{Plan}
-use Rattle.settings.specs.declared.Registers.{Registers}
-use Rattle.settings.specs.Layout.{settingOctets, edition}
-use Rattle.settings.specs.Blocks.{blockOf}
-use Rattle.settings.specs.BlockLaws.{length-block}
+use Rattle.setting_block.specs.declared.Registers.{Registers}
+use Rattle.setting_block.specs.Layout.{settingOctets, edition}
+use Rattle.setting_block.specs.Blocks.{blockOf}
+use Rattle.setting_block.specs.BlockLaws.{length-block}
 use Rattle.settings.specs.Cards.{cardOk, cardNumber, blockAt, replaced}
 
 -- a card that has block n
@@ -73,3 +73,10 @@ length-blockAt card n t = length-part (settingOctets * n) (settingOctets * n + s
 pub put-same : (card : List ℕ) (n : ℕ) → There (length card) n → put (settingOctets * n) (blockAt n card) card ≡ card
 unfolding put
 put-same card n t = rw (length-blockAt card n t) (three-whole (settingOctets * n) settingOctets card)
+
+-- an octet of a block is one of its card
+pub block-set : (card : List ℕ) (n k x : ℕ) → k < settingOctets → blockAt n (set card (settingOctets * n + k) x) ≡ set (blockAt n card) k x
+block-set card n k x h =
+    let z : settingOctets * n + settingOctets - settingOctets * n ≡ settingOctets = omega arith in
+    ap (take (settingOctets * n + settingOctets - settingOctets * n)) (drop-set-add (settingOctets * n) card k x)
+    ∙ take-set-lt (settingOctets * n + settingOctets - settingOctets * n) (drop (settingOctets * n) card) k x (omega arith)

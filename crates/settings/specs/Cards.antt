@@ -8,11 +8,10 @@ use Rattle.lists.specs.Choice.{pick, andThen}
 use Rattle.lists.specs.Parts.{part, put}
 use Rattle.refusal.specs.Numbers.{LENGTH, BLOCK}
 use Rattle.plan.specs.declared.Plan.{Plan}
-use Rattle.plan.specs.Records.{noPlan}
-use Rattle.settings.specs.declared.Registers.{Registers}
-use Rattle.settings.specs.declared.SettingsAnswer.{SettingsAnswer}
-use Rattle.settings.specs.Layout.{settingOctets, edition}
-use Rattle.settings.specs.Blocks.{blockOf, planIn, registersIn, settingNumber, blockNumber}
+use Rattle.setting_block.specs.declared.Registers.{Registers}
+use Rattle.setting_block.specs.declared.SettingsAnswer.{SettingsAnswer}
+use Rattle.setting_block.specs.Layout.{settingOctets, edition}
+use Rattle.setting_block.specs.Blocks.{answer, blockOf, planIn, registersIn, settingNumber, blockNumber}
 
 -- "A card area holds up to 64 whole blocks"
 unfoldable pub cardOk : ℕ → Bool
@@ -29,13 +28,6 @@ blockAt n card = part (settingOctets * n) (settingOctets * n + settingOctets) ca
 -- the numbers of reading a block
 unfoldable pub readNumber : List ℕ → ℕ → ℕ
 readNumber card n = andThen (cardNumber (length card) n) (blockNumber edition (blockAt n card))
-
-abbrev pub noRegisters : Registers
-noRegisters = record { slots = record { mask = 0; start = 0 }; tmcc = record { mask = 0; start = 0 } }
-
--- a number with plan and registers, and zeros where it refuses ("Every other number returned with a refusal is 0")
-abbrev pub answer : ℕ → Plan → Registers → SettingsAnswer
-answer n p r = record { number = n; plan = pick (eqb n 0) p noPlan; registers = pick (eqb n 0) r noRegisters }
 
 unfoldable pub readAnswer : List ℕ → ℕ → SettingsAnswer
 readAnswer card n = answer (readNumber card n) (planIn edition (blockAt n card)) (registersIn edition (blockAt n card))

@@ -1,9 +1,2 @@
-pub mod Layout
-pub mod Numbers
-pub mod NumberLaws
-pub mod Blocks
-pub mod BlockLaws
 pub mod Cards
 pub mod CardLaws
-pub mod TurnedLaws
-pub mod Needs

@@ -4,34 +4,11 @@ ghost use lib.ListN.{length};
 ghost use Rattle.refusal.specs.Answers.{Answered};
 ghost use Rattle.settings.specs.Cards.{cardOk, cardNumber, readAnswer, replaceNumber, replaced};
 use plan::Plan;
+use setting_block::Registers;
+use setting_block::SETTING_OCTETS;
+use setting_block::SettingsAnswer;
 
-mod blocks;
-mod numbers;
-
-pub use blocks::no_settings;
-
-// The settings of a dispersal register.
-pub struct Register {
-    pub mask: u32,
-    pub start: u32,
-}
-
-// Those of both: of slots and of TMCC blocks.
-pub struct Registers {
-    pub slots: Register,
-    pub tmcc: Register,
-}
-
-// What reading a block answers: its number, 0 or the refusal, and plan and registers, zeros by a refusal.
-pub struct SettingsAnswer {
-    pub number: u8,
-    pub plan: Plan,
-    pub registers: Registers,
-}
-
-// The octets of a block, and the most blocks of a card.
-pub const SETTING_OCTETS: usize = 512;
-
+// The most blocks of a card.
 pub const MOST_SETTINGS: usize = 64;
 
 // Whether so many octets are a card's.
@@ -63,19 +40,19 @@ pub fn read_settings(card: &[u8], number: usize) -> SettingsAnswer
 {
     let refused = card_number(card.len(), number);
     if refused != 0 {
-        return blocks::no_settings(refused);
+        return setting_block::no_settings(refused);
     }
     let at = SETTING_OCTETS * number;
     let end = at + SETTING_OCTETS;
-    blocks::read_block(&card[at..end])
+    setting_block::read_block(&card[at..end])
 }
 
 fn replace_number(octets: usize, number: usize, plan: Plan, registers: Registers) -> u8
     ensures { λ r. ⌜ r ≡ replaceNumber octets number plan registers ⌝ }
 {
     let of_card = card_number(octets, number);
-    let of_setting = blocks::setting_number(plan, registers);
-    blocks::first_refusal(of_card, of_setting)
+    let of_setting = setting_block::setting_number(plan, registers);
+    setting_block::first_refusal(of_card, of_setting)
 }
 
 // Replaces a block, whatever it holds.
@@ -88,6 +65,6 @@ pub fn replace_settings(card: &mut [u8], number: usize, plan: Plan, registers: R
     }
     let at = SETTING_OCTETS * number;
     let end = at + SETTING_OCTETS;
-    blocks::put_block(plan, registers, &mut card[at..end]);
+    setting_block::put_block(plan, registers, &mut card[at..end]);
     0
 }

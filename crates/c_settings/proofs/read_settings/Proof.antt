@@ -1,7 +1,7 @@
 -- `c_settings::read_settings`: both areas hold what was answered, and so does the number.
 use mathlib.Core.Path.{ap, _∙_}
 use borrow.Author.Needs.{needs}
-use Rattle.settings.specs.declared.SettingsAnswer.{SettingsAnswer}
+use Rattle.setting_block.specs.declared.SettingsAnswer.{SettingsAnswer}
 use Rattle.c_settings.specs.Calls.{planLeft, settingsLeft}
 use Rattle.c_settings.specs.CallLaws.{answered-fits, answered-number}
 use Rattle.c_settings.proofs.read_settings.Statement.{statement}

@@ -10,9 +10,9 @@ use Rattle.lists.specs.Parts.{put}
 use Rattle.lists.specs.PartLaws.{length-part, put-lent}
 use Rattle.refusal.specs.AnswerLaws.{refused, accepted}
 use Rattle.plan_octets.specs.GroupLaws.{accepted-fits}
-use Rattle.settings.specs.Layout.{edition}
-use Rattle.settings.specs.Blocks.{blockOf}
-use Rattle.settings.specs.BlockLaws.{length-block, sound}
+use Rattle.setting_block.specs.Layout.{edition}
+use Rattle.setting_block.specs.Blocks.{blockOf}
+use Rattle.setting_block.specs.BlockLaws.{length-block, sound}
 use Rattle.settings.specs.Cards.{cardNumber, replaceNumber, replaced}
 use Rattle.settings.specs.CardLaws.{There, there}
 use Rattle.settings.proofs.replace_settings.Statement.{statement}
