@@ -3,6 +3,7 @@ import json
 import os
 import re
 import resource
+import signal
 import subprocess
 
 ROOT = os.path.dirname(os.path.dirname(os.path.dirname(os.path.abspath(__file__))))
@@ -50,6 +51,12 @@ def got(name):
 def limit(kind, octets):
     """For a run that may have no more octets of something, as memory."""
     return {"preexec_fn": lambda: resource.setrlimit(kind, (octets, octets))}
+
+
+def under(number, action):
+    """A run under some action for a signal, whatever the tests run under: one that is begun in the background ignores SIGINT.
+    Nothing acts on SIGKILL but the system."""
+    return {} if number == signal.SIGKILL else {"preexec_fn": lambda: signal.signal(number, action)}
 
 
 def run(*words, given=b"", **more):

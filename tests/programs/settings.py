@@ -11,7 +11,7 @@ import stat
 import subprocess
 
 from common import (COMMAND, EIGHT, FEW, MASK, SETTINGS, START, WORKED, check, equal, got, limit, put, refused, run, samples,
-                    well)
+                    under, well)
 from plans import random_plan
 
 BLOCK, MOST = 512, 64
@@ -274,7 +274,7 @@ def waiting(number):
     os.mkfifo("fifo")
     card = got("card")
     before = sorted(os.listdir("."))
-    with subprocess.Popen([COMMAND, *set_words("card", 1, "fifo")]) as setting:
+    with subprocess.Popen([COMMAND, *set_words("card", 1, "fifo")], **under(number, signal.SIG_DFL)) as setting:
         with open("fifo", "wb") as plan:  # open once the run has opened it
             plan.write(b"4 7 115\n")
             plan.flush()
@@ -290,7 +290,7 @@ def cut_off(call, number):
     subprocess.run(["cc", "-shared", "-fPIC", "cut.c", "-o", "cut.so"], check=True)
     card = got("card")
     before = sorted(os.listdir("."))
-    more = {"env": {**os.environ, "LD_PRELOAD": os.path.abspath("cut.so")}, "timeout": 60}
+    more = {"env": {**os.environ, "LD_PRELOAD": os.path.abspath("cut.so")}, "timeout": 60, **under(number, signal.SIG_DFL)}
     status = run(*set_words("card", 1, registers=OTHERS), **more)[0]
     equal(f"cut off in {call}: the run ends by the signal", status, -number)
     equal(f"cut off in {call}: the old card stays", got("card"), card)

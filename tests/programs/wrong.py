@@ -8,7 +8,7 @@ import stat
 import subprocess
 
 from common import (COMMAND, MASK, PACKET, SETTINGS, START, WORKED, check, equal, frames_of, got, limit, put, refused, run,
-                    samples, well)
+                    samples, under, well)
 
 
 def settings(job, given):
@@ -123,7 +123,7 @@ def terminals():
 def reading(number, action):
     """A monitor that has read one frame and waits for more, under some action for a signal."""
     words = [COMMAND, "monitor", *SETTINGS, "-o", "out", "--json", "out.json", "--svg", "out.svg"]
-    monitor = subprocess.Popen(words, stdin=subprocess.PIPE, stdout=subprocess.PIPE, preexec_fn=lambda: signal.signal(number, action))
+    monitor = subprocess.Popen(words, stdin=subprocess.PIPE, stdout=subprocess.PIPE, **under(number, action))
     monitor.stdin.write(got("frames"))
     monitor.stdin.flush()
     equal("the first frame is read", monitor.stdout.readline()[:17], b"frame 1 accepted ")
