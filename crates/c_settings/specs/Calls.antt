@@ -26,6 +26,7 @@ areasOk plan settings = eqb plan 24 && eqb settings 5
 unfoldable pub readCall : List ℕ → ℕ → ℕ → ℕ → ℕ
 readCall card n plan settings = andThen (pick (areasOk plan settings) 0 LENGTH) (readNumber card n)
 
+-- what is read where that number is 0, and zeros by a refusal
 unfoldable pub readAnswered : List ℕ → ℕ → ℕ → ℕ → SettingsAnswer
 readAnswered card n plan settings =
     answer (readCall card n plan settings) (planIn edition (blockAt n card)) (registersIn edition (blockAt n card))
@@ -44,6 +45,7 @@ numbersOf a =
     ∷ a .registers .tmcc .start
     ∷ []
 
+-- the same of this area
 unfoldable pub settingsLeft : SettingsAnswer → List ℕ → List ℕ
 settingsLeft a settings = pick (eqb (length settings) 5) (numbersOf a) settings
 

@@ -86,6 +86,7 @@ settingNumber p r = andThen (planNumber p) (pick (registersOk r) 0 REGISTER)
 unfoldable pub blockNumber : ℕ → List ℕ → ℕ
 blockNumber e block = andThen (pick (blockOk e block) 0 BLOCK) (settingNumber (planIn e block) (registersIn e block))
 
+-- the registers of a refusal, zeros
 abbrev pub noRegisters : Registers
 noRegisters = record { slots = record { mask = 0; start = 0 }; tmcc = record { mask = 0; start = 0 } }
 

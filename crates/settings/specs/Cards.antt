@@ -29,6 +29,7 @@ blockAt n card = part (settingOctets * n) (settingOctets * n + settingOctets) ca
 unfoldable pub readNumber : List ℕ → ℕ → ℕ
 readNumber card n = andThen (cardNumber (length card) n) (blockNumber edition (blockAt n card))
 
+-- what "an operator reads": plan and registers of the block
 unfoldable pub readAnswer : List ℕ → ℕ → SettingsAnswer
 readAnswer card n = answer (readNumber card n) (planIn edition (blockAt n card)) (registersIn edition (blockAt n card))
 
