@@ -16,7 +16,9 @@ fn main() {
     match words[..] {
         ["vectors"] => vectors::print(),
         ["frames"] => frames::print(),
-        ["stream", ref files @ ..] => stream::write(files),
+        ["stream", plan, mask, start, packets, out, ref headers @ ..] => {
+            stream::write([plan, mask, start, packets, out], headers.first())
+        }
         ["parity", rate] => stream::renew_parity(rate.parse().expect("a rate")),
         [way @ ("bench" | "quick"), coded, read, coded_frames, read_frames, ref rates @ ..] => {
             let [coded, read, coded_frames, read_frames] =

@@ -117,11 +117,14 @@ pub fn read(card: &[u8], number: u32, plan: &mut [u8], settings: &mut [u32]) -> 
 
 /// Replaces a block by its number from 0, whatever it holds, by the setting of a plan and the registers' four numbers.
 pub fn replace(card: &mut [u8], number: u32, plan: &[u8], registers: &[u32]) -> u8 {
-    let Ok(registers) = registers.try_into() else { return LENGTH_WRONG };
-    if !card_fits(card) {
-        return LENGTH_WRONG;
-    }
-    let Some(block) = card.chunks_mut(OCTETS).nth(number as usize) else { return BLOCK_WRONG };
+    let registers = match registers.try_into() {
+        Ok(registers) if card_fits(card) => registers,
+        _ => return LENGTH_WRONG,
+    };
+    let block = match card.chunks_mut(OCTETS).nth(number as usize) {
+        Some(block) => block,
+        None => return BLOCK_WRONG,
+    };
     match accept(plan, registers) {
         Err(refusal) => refusal,
         Ok(()) => {

@@ -38,7 +38,7 @@ fn frames(plan: &[Group], mask: u32, start: u32, packets: &[u8], headers: &[u8])
     let slots = slot_packets(plan);
     let in_frame: usize = slots.iter().map(|&(_, count)| count).sum();
     let count = packets.len() / PACKET;
-    let missing = count.div_ceil(in_frame) * in_frame - count;
+    let missing = (count + in_frame - 1) / in_frame * in_frame - count;
     let mut rest: Vec<u8> = packets.to_vec();
     rest.extend(null_packet().repeat(missing));
     let mut rest = rest.as_slice();
@@ -71,11 +71,10 @@ pub fn renew_parity(rate: usize) {
 }
 
 /// Reads the files that `s3frame code` reads, and writes the frames.
-pub fn write(files: &[&str]) {
-    let [plan, mask, start, packets, out] = files[..5] else { panic!("plan, mask, start, packets and frames") };
+pub fn write([plan, mask, start, packets, out]: [&str; 5], headers: Option<&&str>) {
     let plan = groups(&fs::read_to_string(plan).expect("a plan"));
     let packets = fs::read(packets).expect("packets");
-    let headers = files.get(5).map(|path| fs::read(path).expect("headers")).unwrap_or_default();
+    let headers = headers.map(|path| fs::read(path).expect("headers")).unwrap_or_default();
     let number = |word: &str| word.parse().expect("a number");
     fs::write(out, frames(&plan, number(mask), number(start), &packets, &headers)).expect("frames are written");
 }

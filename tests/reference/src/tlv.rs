@@ -96,11 +96,17 @@ pub fn fill(
     next: &mut [u64],
 ) -> u8 {
     put(next, [0, 0]);
-    let Some(data) = data_octets(rate) else { return PLAN_WRONG };
+    let data = match data_octets(rate) {
+        Some(data) => data,
+        None => return PLAN_WRONG,
+    };
     if next.len() != 2 || !filling_fits(data, packets, taken, owed, slots, begins) {
         return LENGTH_WRONG;
     }
-    let Some(heads) = heads(packets) else { return PACKET_WRONG };
+    let heads = match heads(packets) {
+        Some(heads) => heads,
+        None => return PACKET_WRONG,
+    };
     let (taken, owed) = (taken as usize, owed as usize);
     let mut stream = Stream::new();
     stream.put(&FILLER[HEAD - owed..], &vec![false; owed]);
@@ -209,7 +215,10 @@ pub fn read(
     next: &mut [u64],
 ) -> u8 {
     put(next, [0, 0]);
-    let Some(data) = data_octets(rate) else { return PLAN_WRONG };
+    let data = match data_octets(rate) {
+        Some(data) => data,
+        None => return PLAN_WRONG,
+    };
     let received = Received { data, octets: slots, begins, lost };
     if next.len() != 2 || packets.len() != slots.len() || !received.fits() || !place_fits(data, first) {
         return LENGTH_WRONG;

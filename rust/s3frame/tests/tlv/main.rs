@@ -47,7 +47,10 @@ fn streams(random: &mut Random, usual: usize, mut each: impl FnMut(&mut Random, 
 
 /// What the end of a slot cuts.
 fn cut(pieces: &[Piece], end: usize) -> &'static str {
-    let Some(piece) = pieces.iter().find(|piece| piece.at < end && end < piece.end()) else { return "nothing" };
+    let piece = match pieces.iter().find(|piece| piece.at < end && end < piece.end()) {
+        Some(piece) => piece,
+        None => return "nothing",
+    };
     match (piece.octets == FILLER, end - piece.at) {
         (true, 1) => "filler behind 1",
         (true, 2) => "filler behind 2",
