@@ -1,6 +1,7 @@
 """`s3frame settings`, and settings of a card for code and monitor: beside blocks that are made here, from document 02; wrong
-blocks, cards and words; and runs that fail or are cut off while they replace a card.
+blocks, cards and words; runs at once; and runs that fail or are cut off while they replace a card.
 """
+import fcntl
 import json
 import os
 import random
@@ -9,6 +10,7 @@ import shutil
 import signal
 import stat
 import subprocess
+import time
 
 from common import (COMMAND, EIGHT, FEW, MASK, SETTINGS, START, WORKED, check, equal, got, limit, put, refused, run, samples,
                     under, well)
@@ -20,6 +22,7 @@ OTHERS = (*REGISTERS[:3], 1)
 NAMES = ("mask", "start", "tmcc-mask", "tmcc-start")
 WORDS = {1: "plan", 6: "register", 13: "value", 14: "order", 15: "total", 17: "block"}
 KEPT = ["--settings", "card", "--block", "1"]
+NOBODY = 65534
 
 
 def summed(octets):
@@ -238,24 +241,43 @@ def links_and_permissions():
     os.remove("link")
 
 
+def someone(groups=()):
+    """A run by someone who is not root, of these groups too."""
+    return {"user": NOBODY, "group": NOBODY, "extra_groups": groups} if os.geteuid() == 0 else {}
+
+
 def not_permitted():
     """Permissions of the card and of its folder, for someone to whom they apply: not for root."""
-    root = os.geteuid() == 0
-    someone = {"user": 65534, "group": 65534, "extra_groups": []} if root else {}
     shutil.copy(COMMAND, "s3frame")
-    if root:
-        os.chown(".", 65534, 65534)
-        os.chown("card", 65534, 65534)
+    if os.geteuid() == 0:
+        os.chown(".", NOBODY, NOBODY)
+        os.chown("card", NOBODY, NOBODY)
     for what, of_folder, of_card in (("a card that is protected", 0o755, 0o444), ("a folder that is protected", 0o555, 0o644)):
         os.chmod("card", of_card)
         os.chmod(".", of_folder)
         before = got("card"), sorted(os.listdir("."))
         words = ["./s3frame", *set_words("card", 0, registers=OTHERS)]
-        result = subprocess.run(words, capture_output=True, text=True, **someone)
+        result = subprocess.run(words, capture_output=True, text=True, **someone())
         os.chmod(".", 0o755)
         equal(f"{what}: status and line", (result.returncode, result.stderr[:46]),
               (2, "s3frame settings set: card: Permission denied "))
         check(f"{what}: nothing has changed", (got("card"), sorted(os.listdir("."))) == before)
+    os.remove("s3frame")
+
+
+def owners():
+    """Root keeps the owner of a card that is replaced, someone else its group where he is in it. Only root can try this."""
+    if os.geteuid() != 0:
+        return
+    shutil.copy(COMMAND, "s3frame")
+    os.chown(".", NOBODY, NOBODY)
+    for owner, group, who, kept in ((NOBODY, 12345, {}, (NOBODY, 12345)), (0, 12345, someone([12345]), (NOBODY, 12345)),
+                                    (0, 0, someone(), (NOBODY, NOBODY))):
+        os.chown("card", owner, group)
+        os.chmod("card", 0o666)
+        subprocess.run(["./s3frame", *set_words("card", 0)], stdout=subprocess.DEVNULL, check=True, **who)
+        left = os.stat("card")
+        equal(f"owner of a card of {owner} and {group}", (left.st_uid, left.st_gid, stat.S_IMODE(left.st_mode)), (*kept, 0o666))
     os.remove("s3frame")
 
 
@@ -267,6 +289,43 @@ def failing():
     status, out, told = run(*set_words("card", 1, registers=OTHERS), **limit(resource.RLIMIT_FSIZE, 10000))
     equal("a card that cannot be written", (status, out, told[:42]), (2, b"", "s3frame settings set: card: File too large"))
     check("the old card stays, and nothing else", got("card") == card and sorted(os.listdir(".")) == before)
+
+
+def at_once():
+    """Runs that each replace another block of one card, all at once: none undoes another's work."""
+    put("card", bytes(BLOCK * 24))
+    runs = [subprocess.Popen([COMMAND, *set_words("card", number)], stdout=subprocess.DEVNULL) for number in range(24)]
+    equal("runs at once", [setting.wait(60) for setting in runs], [0] * 24)
+    equal("runs at once: every block is replaced", got("card"), block(octets_of(WORKED)) * 24)
+
+
+def has_open(pid, path):
+    """Whether a process has a file open."""
+    for number in os.listdir(f"/proc/{pid}/fd"):
+        try:
+            if os.readlink(f"/proc/{pid}/fd/{number}") == os.path.abspath(path):
+                return True
+        except FileNotFoundError:  # closed meanwhile
+            pass
+    return False
+
+
+def replaced_meanwhile():
+    """A run that waits for another goes on with the card that the other leaves."""
+    put("card", bytes(2 * BLOCK))
+    other = block(octets_of(FEW)) + bytes(BLOCK)
+    put("new", other)
+    with open("card", "rb") as held:
+        fcntl.flock(held, fcntl.LOCK_EX)
+        with subprocess.Popen([COMMAND, *set_words("card", 1)], stdout=subprocess.DEVNULL) as setting:
+            end = time.monotonic() + 60
+            while not has_open(setting.pid, "card") and time.monotonic() < end:
+                time.sleep(0.01)
+            check("the run has opened the card, and has not replaced it", got("card") == bytes(2 * BLOCK))
+            os.rename("new", "card")
+            fcntl.flock(held, fcntl.LOCK_UN)
+            equal("a run that waited", setting.wait(60), 0)
+    equal("it replaced a block of the new card", got("card"), other[:BLOCK] + block(octets_of(WORKED)))
 
 
 def waiting(number):
@@ -316,6 +375,9 @@ def test():
     wrong_words()
     links_and_permissions()
     not_permitted()
+    owners()
+    at_once()
+    replaced_meanwhile()
     failing()
     for number in (signal.SIGTERM, signal.SIGINT, signal.SIGKILL):
         waiting(number)

@@ -86,10 +86,11 @@ impl Files {
     }
 
     /// Opens a file that is read and then replaced: what it holds, and what takes its place. No other output is an input.
+    /// Other runs that would replace it wait until what it holds is dropped.
     pub fn open_to_replace(&mut self, word: &Path) -> Result<(Input, Output), Failure> {
         let path = named(Some(word));
         let path = path.ok_or_else(|| Failure::new(STANDARD_INPUT, "cannot be replaced: name a file"))?;
-        let input = Input::open_to_replace(path)?;
+        let input = latest(path)?;
         self.take(Identity::of(input.metadata()), input.name())?;
         let output = Output::replace(path, input.metadata())?;
         Ok((input, output))
@@ -138,6 +139,16 @@ impl Files {
         }
         self.taken.push((identity, name.to_string()));
         Ok(())
+    }
+}
+
+/// Opens the file at a path to replace it; anew where another run has replaced it while this one waited.
+fn latest(path: &Path) -> Result<Input, Failure> {
+    loop {
+        let input = Input::open_to_replace(path)?;
+        if Identity::of(input.metadata()) == Identity::at(path) {
+            return Ok(input);
+        }
     }
 }
 

@@ -1,8 +1,9 @@
 //! Files that are read, standard input among them.
 use crate::failure::Failure;
+use nix::fcntl::{flock, FlockArg};
 use std::fs::{File, Metadata};
 use std::io::{self, BufReader, Read};
-use std::os::unix::io::AsFd;
+use std::os::unix::io::{AsFd, AsRawFd};
 use std::path::Path;
 
 pub const STANDARD_INPUT: &str = "standard input";
@@ -26,14 +27,16 @@ impl Input {
         Input::new(name, file)
     }
 
-    /// Opens the file at a path that will be replaced. It is opened for writing as well, so that one that is protected
-    /// against that is safe.
+    /// Opens the file at a path that will be replaced, and waits until no other run has it for that. It is opened for writing
+    /// as well, so that one that is protected against that is safe.
     pub fn open_to_replace(path: &Path) -> Result<Input, Failure> {
         let name = path.display().to_string();
         let input = Input::new(name, File::options().read(true).write(true).open(path))?;
         if !input.metadata.is_file() {
             return Err(Failure::new(&input.name, "is a device or a pipe, which cannot be replaced"));
         }
+        // Held until the file is closed. There are file systems without locks, which is no reason to refuse the work.
+        let _ = flock(input.file.get_ref().as_raw_fd(), FlockArg::LockExclusive);
         Ok(input)
     }
 

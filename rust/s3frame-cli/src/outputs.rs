@@ -1,10 +1,12 @@
 //! Files that are written, standard output among them. A file gets its name once it is whole.
 use crate::failure::Failure;
 use crate::interrupt;
+use nix::unistd::{fchown, Gid, Uid};
 use std::ffi::OsString;
 use std::fs::{self, File, Metadata};
 use std::io::{self, BufWriter, Write};
-use std::os::unix::io::AsFd;
+use std::os::unix::fs::MetadataExt;
+use std::os::unix::io::{AsFd, AsRawFd};
 use std::path::{Path, PathBuf};
 use tempfile::TempDir;
 
@@ -76,11 +78,12 @@ impl Output {
         }
     }
 
-    /// A file that takes the place of one that is there, once it is whole, and has its permissions.
+    /// A file that takes the place of one that is there, once it is whole, with its owner and permissions.
     pub fn replace(path: &Path, there: &Metadata) -> Result<Output, Failure> {
         let output = Output::create(path)?;
         let file = output.writer.get_ref();
         let failed = |error| Failure::new(&output.name, error);
+        keep_owner(file, there);
         // A file system that knows no permissions gives all files the same.
         if file.metadata().map_err(failed)?.permissions() != there.permissions() {
             file.set_permissions(there.permissions()).map_err(failed)?;
@@ -116,6 +119,13 @@ impl Output {
             None => Ok(()),
         }
     }
+}
+
+/// Gives a file the owner and group of another, so that those who share it still do, as far as the system allows that: only
+/// root can give a file away, but anyone can keep a group that he is in.
+fn keep_owner(file: &File, there: &Metadata) {
+    let give = |owner| fchown(file.as_raw_fd(), owner, Some(Gid::from_raw(there.gid())));
+    let _ = give(Some(Uid::from_raw(there.uid()))).or_else(|_| give(None));
 }
 
 /// Gives all outputs of a run their names, none before all of them are whole.

@@ -55,8 +55,7 @@ fn show(words: &ShowWords) -> Result<Outcome, Failure> {
     Ok(Outcome::new(false))
 }
 
-/// Replaces a block of a card. The card is looked at last, so that no other run's work on it is lost while this one waits
-/// for its plan.
+/// Replaces a block of a card. The card is opened last, since other runs that replace a block of it wait from then on.
 fn set(words: &SetWords) -> Result<Outcome, Failure> {
     let mut files = Files::default();
     let settings = settings_of(&mut files, words)?;
