@@ -59,8 +59,9 @@ CARD
    6 register  a mask lacks its top weight, a start is 0, or either is too wide
 
   To replace a block another file is written, which gets the card's name once it is whole: a run
-  that is cut off leaves the old card. Owner and permissions of the card stay, and a link stays a
-  link. Runs that replace blocks of one card at once wait for each other.";
+  that is cut off leaves the old card. The card's permissions stay, its owner and group as far as
+  the system lets them, and a link stays a link. Runs that replace blocks of one card at once
+  wait for each other.";
 
 pub const FRAME_FORM: &str = "\
 FILES

@@ -78,7 +78,7 @@ impl Output {
         }
     }
 
-    /// A file that takes the place of one that is there, once it is whole, with its owner and permissions.
+    /// A file that takes the place of one that is there, once it is whole, with its permissions and, where it can, its owner.
     pub fn replace(path: &Path, there: &Metadata) -> Result<Output, Failure> {
         let output = Output::create(path)?;
         let file = output.writer.get_ref();
