@@ -50,6 +50,8 @@ extern "C" {
         coded_length: usize,
         source: *mut u8,
         source_length: usize,
+        report: *mut u16,
+        report_length: usize,
         next: *mut u32,
         next_length: usize,
     ) -> u32;
@@ -80,6 +82,8 @@ extern "C" {
         source_length: usize,
         answers: *mut u8,
         answers_length: usize,
+        stuff: *mut u8,
+        stuff_length: usize,
     ) -> u32;
     fn s3_code_tmcc(
         mask: u32,
@@ -161,6 +165,8 @@ extern "C" {
         header_length: usize,
         packets: *mut u8,
         packets_length: usize,
+        report: *mut u16,
+        report_length: usize,
         next: *mut u32,
         next_length: usize,
     ) -> u32;
@@ -255,8 +261,9 @@ pub fn code_slot(at: At, table: &[u16], source: &[u8], coded: &mut [u8], next: &
     }
 }
 
-/// Reads a slot; 8, 9 and 10 move on. Numbers: 1, 13, 14, 15, 6, 3, 2, 4, 5, 8, 9, 10.
-pub fn read_slot(at: At, table: &[u16], coded: &[u8], source: &mut [u8], next: &mut [u32]) -> u32 {
+/// Reads a slot; 8 and 9 move on. Every answer writes a `report` of one number: the stuff bits, or 255 with a refusal.
+/// Numbers: 1, 13, 14, 15, 6, 3, 2, 4, 5, 8, 9.
+pub fn read_slot(at: At, table: &[u16], coded: &[u8], source: &mut [u8], report: &mut [u16], next: &mut [u32]) -> u32 {
     let At { plan, mask, start, slot, register } = at;
     unsafe {
         s3_read_slot(
@@ -272,6 +279,8 @@ pub fn read_slot(at: At, table: &[u16], coded: &[u8], source: &mut [u8], next: &
             coded.len(),
             source.as_mut_ptr(),
             source.len(),
+            report.as_mut_ptr(),
+            report.len(),
             next.as_mut_ptr(),
             next.len(),
         )
@@ -303,13 +312,15 @@ pub fn code_packets(at: At, table: &[u16], header: &[u8], packets: &[u8], coded:
     }
 }
 
-/// Reads a slot into header and packets; 8, 9 and 10 move on. Numbers: 1, 13, 14, 15, 6, 3, 2, 4, 5, 8, 9, 10.
+/// Reads a slot into header and packets; 8 and 9 move on. Every answer writes a `report` as in [`read_slot`]. Numbers: 1, 13,
+/// 14, 15, 6, 3, 2, 4, 5, 8, 9.
 pub fn read_packets(
     at: At,
     table: &[u16],
     coded: &[u8],
     header: &mut [u8],
     packets: &mut [u8],
+    report: &mut [u16],
     next: &mut [u32],
 ) -> u32 {
     let At { plan, mask, start, slot, register } = at;
@@ -329,6 +340,8 @@ pub fn read_packets(
             header.len(),
             packets.as_mut_ptr(),
             packets.len(),
+            report.as_mut_ptr(),
+            report.len(),
             next.as_mut_ptr(),
             next.len(),
         )
@@ -367,6 +380,7 @@ pub fn read_frame(
     frame: &[u8],
     source: &mut [u8],
     answers: &mut [u8],
+    stuff: &mut [u8],
 ) -> u32 {
     unsafe {
         s3_read_frame(
@@ -382,6 +396,8 @@ pub fn read_frame(
             source.len(),
             answers.as_mut_ptr(),
             answers.len(),
+            stuff.as_mut_ptr(),
+            stuff.len(),
         )
     }
 }

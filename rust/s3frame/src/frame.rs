@@ -1,22 +1,23 @@
 //! A whole frame in one area.
 use crate::refusal::answer;
-use crate::{calls, Plan, Refusal, SlotSettings, SLOTS};
+use crate::{calls, Plan, Refusal, SlotSettings, StuffBits, SLOTS};
+use std::array;
 
 /// What became of a slot of a frame that was read.
 #[derive(Clone, Copy, Debug, PartialEq, Eq, Hash)]
 pub enum SlotAnswer {
-    /// Its header and data are in their places.
-    Read,
+    /// Its header and data are in their places; these are its stuff bits.
+    Read(StuffBits),
     /// It is a dummy, and has no places.
     Dummy,
-    /// [`Refusal::Parity`], [`Refusal::Bch`] or [`Refusal::Stuff`]: its places are as they were.
+    /// [`Refusal::Parity`] or [`Refusal::Bch`]: its places are as they were.
     Refused(Refusal),
 }
 
 impl SlotAnswer {
-    fn of_octet(octet: u8) -> SlotAnswer {
-        match answer(octet.into()) {
-            Ok(()) => SlotAnswer::Read,
+    fn of_octets(number: u8, stuff: u8) -> SlotAnswer {
+        match answer(number.into()) {
+            Ok(()) => SlotAnswer::Read(StuffBits::of_number(stuff)),
             Err(Refusal::Dummy) => SlotAnswer::Dummy,
             Err(refusal) => SlotAnswer::Refused(refusal),
         }
@@ -56,7 +57,8 @@ pub fn read_frame(
     frame: &[u8],
     source: &mut [u8],
 ) -> Result<FrameRead, Refusal> {
-    let mut answers = [0; SLOTS];
-    answer(calls::read_frame(plan.octets(), settings.mask, settings.start, tables, frame, source, &mut answers))?;
-    Ok(FrameRead { answers: answers.map(SlotAnswer::of_octet) })
+    let (mut answers, mut stuff) = ([0; SLOTS], [0; SLOTS]);
+    let SlotSettings { mask, start } = settings;
+    answer(calls::read_frame(plan.octets(), mask, start, tables, frame, source, &mut answers, &mut stuff))?;
+    Ok(FrameRead { answers: array::from_fn(|slot| SlotAnswer::of_octets(answers[slot], stuff[slot])) })
 }

@@ -5,7 +5,7 @@
 //! refusal changes no lent area, and says by its word ([`Refusal`]) what was wrong.
 //!
 //! ```
-//! use s3frame::{FrameState, Group, Modulation, Plan, Rate, SlotSettings};
+//! use s3frame::{FrameState, Group, Modulation, Plan, Rate, SlotSettings, StuffBits};
 //!
 //! # fn main() -> Result<(), s3frame::Refusal> {
 //! let plan = Plan::new(&[
@@ -22,7 +22,7 @@
 //!
 //! let mut back = vec![1; source.len()];
 //! let read = opened.read_slot(&table, &slot, &mut back);
-//! assert_eq!((read.answer, read.state), (Ok(()), next));
+//! assert_eq!((read.answer, read.state), (Ok(StuffBits::ONES), next));
 //! assert_eq!(back, source);
 //! # Ok(())
 //! # }
@@ -42,6 +42,7 @@ mod rate;
 mod refusal;
 mod settings;
 mod state;
+mod stuff;
 mod symbols;
 mod tlv;
 mod tmcc;
@@ -58,6 +59,7 @@ pub use rate::Rate;
 pub use refusal::Refusal;
 pub use settings::{read_settings, replace_settings, Settings};
 pub use state::{check_parity, FrameState, SlotRead, SlotSettings};
+pub use stuff::StuffBits;
 pub use symbols::{labels, slot_of_labels, tmcc_labels, tmcc_of_labels};
 pub use tlv::{fill_tlv, read_tlv, TlvFilled, TlvRead, NO_BEGIN};
 pub use tmcc::{code_tmcc, read_tmcc, TmccSettings};

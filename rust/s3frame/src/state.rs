@@ -1,7 +1,7 @@
 //! A frame slot by slot.
 use crate::calls::{self, At};
 use crate::refusal::answer;
-use crate::{Plan, Rate, Refusal};
+use crate::{Plan, Rate, Refusal, StuffBits};
 
 /// The settings of the 25-bit dispersal register of slots.
 #[derive(Clone, Copy, Debug, PartialEq, Eq, Hash)]
@@ -29,10 +29,10 @@ pub struct FrameState {
 #[non_exhaustive]
 #[must_use]
 pub struct SlotRead {
-    /// Whether the slot was read, or why not.
-    pub answer: Result<(), Refusal>,
-    /// Moved on by one slot where the slot was read or refused [`Refusal::Parity`], [`Refusal::Bch`] or
-    /// [`Refusal::Stuff`]; as it was before any other refusal.
+    /// The stuff bits of the slot that was read, or why it was not.
+    pub answer: Result<StuffBits, Refusal>,
+    /// Moved on by one slot where the slot was read or refused [`Refusal::Parity`] or [`Refusal::Bch`]; as it was before any
+    /// other refusal.
     pub state: FrameState,
 }
 
@@ -73,17 +73,25 @@ impl FrameState {
 
     /// The answer of a call on the next slot, and the state after it. The call itself leaves `next` as found where the state
     /// stays.
-    fn called(self, call: impl FnOnce(At<'_>, &mut [u32]) -> u32) -> SlotRead {
+    fn called(self, call: impl FnOnce(At<'_>, &mut [u32]) -> u32) -> (Result<(), Refusal>, FrameState) {
         let FrameState { ref plan, settings: SlotSettings { mask, start }, slot, register } = self;
         let mut next = [slot, register];
         let number = call(At { plan: plan.octets(), mask, start, slot, register }, &mut next);
-        SlotRead { answer: answer(number), state: FrameState { slot: next[0], register: next[1], ..self } }
+        (answer(number), FrameState { slot: next[0], register: next[1], ..self })
     }
 
     /// The state moved on, or the refusal, of a call that stays wherever it is refused.
     fn moved(self, call: impl FnOnce(At<'_>, &mut [u32]) -> u32) -> Result<FrameState, Refusal> {
-        let SlotRead { answer, state } = self.called(call);
+        let (answer, state) = self.called(call);
         answer.map(|()| state)
+    }
+
+    /// What a call that reads the next slot gives.
+    fn read(self, call: impl FnOnce(At<'_>, &mut [u16], &mut [u32]) -> u32) -> SlotRead {
+        let mut report = [0];
+        let (answer, state) = self.called(|at, next| call(at, &mut report, next));
+        let stuff = |()| StuffBits::of_number(u8::try_from(report[0]).expect("six bits, or 255"));
+        SlotRead { answer: answer.map(stuff), state }
     }
 
     /// Passes a dummy.
@@ -103,10 +111,10 @@ impl FrameState {
 
     /// Reads the next slot; the lengths are those of coding it.
     ///
-    /// Refused: as [`code_slot`](FrameState::code_slot) is, then [`Refusal::Parity`], [`Refusal::Bch`], [`Refusal::Stuff`];
-    /// `source` is then as it was.
+    /// Refused: as [`code_slot`](FrameState::code_slot) is, then [`Refusal::Parity`], [`Refusal::Bch`]; `source` is then as it
+    /// was. Coding what was read gives the same slot exactly where its stuff bits are [`StuffBits::ONES`].
     pub fn read_slot(self, table: &[u16], coded: &[u8], source: &mut [u8]) -> SlotRead {
-        self.called(|at, next| calls::read_slot(at, table, coded, source, next))
+        self.read(|at, report, next| calls::read_slot(at, table, coded, source, report, next))
     }
 
     /// Codes the next slot from [`HEADER_OCTETS`](crate::HEADER_OCTETS) and its packets, [`Rate::packet_octets`] of the rate
@@ -128,7 +136,7 @@ impl FrameState {
     ///
     /// Refused: as [`read_slot`](FrameState::read_slot) is; `header` and `packets` are then as they were.
     pub fn read_packets(self, table: &[u16], coded: &[u8], header: &mut [u8], packets: &mut [u8]) -> SlotRead {
-        self.called(|at, next| calls::read_packets(at, table, coded, header, packets, next))
+        self.read(|at, report, next| calls::read_packets(at, table, coded, header, packets, report, next))
     }
 }
 
