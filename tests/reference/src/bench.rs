@@ -2,7 +2,7 @@
 use crate::plan::SLOTS;
 use crate::quick::{Areas, Loops};
 use crate::samples::{digest, octets, MASK, START};
-use crate::slot::{code_slot, read_slot, Code, OCTETS};
+use crate::slot::{code_slot, read_slot, Code, Read, OCTETS};
 use crate::tables::tables;
 
 /// Coding and reading from a register on, in one of two ways; the register after the slot.
@@ -23,7 +23,9 @@ impl Way for Plain<'_> {
 
     fn read(&mut self, register: u32, coded: &[u8], found: &mut [u8]) -> u32 {
         let (read, after) = read_slot(self.0, MASK, register, coded);
-        found.copy_from_slice(&read.expect("a sound slot"));
+        let Read { source, stuff } = read.expect("a sound slot");
+        assert_eq!(stuff, 63, "six ones");
+        found.copy_from_slice(&source);
         after
     }
 }
@@ -36,8 +38,8 @@ impl Way for Quick {
     }
 
     fn read(&mut self, register: u32, coded: &[u8], found: &mut [u8]) -> u32 {
-        let (number, after) = self.0.read(&mut self.1, MASK, register, coded, found);
-        assert_eq!(number, 0, "a sound slot");
+        let (stuff, after) = self.0.read(&mut self.1, MASK, register, coded, found);
+        assert_eq!(stuff, Ok(63), "a sound slot, with six ones");
         after
     }
 }

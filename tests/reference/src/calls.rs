@@ -1,8 +1,10 @@
 //! Calls on a plan and at a place of a frame, with the refusals of documents 01 and 02 in their order: a state handed in is
-//! tested anew, and the next slot and register go into a lent area of two numbers.
+//! tested anew, and the next slot and register go into a lent area of two numbers, the stuff bits that are read into one of
+//! one number.
 use crate::dispersal::allowed;
 use crate::plan::{self, Group, Place, SLOTS};
-use crate::slot::{self, Code, DUMMY, FULL, LENGTH_WRONG, PARITY_WRONG, PLAN_WRONG, REGISTER_WRONG, TABLE_WRONG};
+use crate::slot::{self, Code, DUMMY, FULL, LENGTH_WRONG, NO_STUFF, PARITY_WRONG};
+use crate::slot::{PLAN_WRONG, REGISTER_WRONG, TABLE_WRONG};
 use crate::{ldpc, packets, tables, vectors};
 
 /// The header octets of a slot.
@@ -41,14 +43,36 @@ impl State<'_> {
         if place.data { Ok(&self.plan[place.group]) } else { Err(DUMMY) }
     }
 
-    /// The code of the group at a data slot, or the first refusal that coding and reading share.
-    fn accept(&self, table: &[u16], source: &[u8], coded: &[u8], next: &[u32]) -> Result<Code, u8> {
+    /// The code of the group at a data slot, or the first refusal that coding and reading share. Lengths are asked of the
+    /// group, which fixes them.
+    fn accept(&self, table: &[u16], lengths_hold: impl Fn(&Group) -> bool) -> Result<Code, u8> {
         let group = self.group()?;
-        let lengths = (source.len(), coded.len(), next.len());
-        if lengths != (group.source_octets(), slot::OCTETS, 2) {
+        if !lengths_hold(group) {
             return Err(LENGTH_WRONG);
         }
         code_of(group.rows(), table)
+    }
+
+    /// Reads the next slot where the lengths of what is read hold too. A slot that fails a check moves the state on all the
+    /// same, and every answer writes a report of one number: the stuff bits, 255 with a refusal.
+    fn read(
+        &self,
+        table: &[u16],
+        coded: &[u8],
+        report: &mut [u16],
+        next: &mut [u32],
+        lengths_hold: impl Fn(&Group) -> bool,
+    ) -> Result<slot::Read, u8> {
+        let fixed = [coded.len(), report.len(), next.len()] == [slot::OCTETS, 1, 2];
+        let read = self.accept(table, |group| fixed && lengths_hold(group)).and_then(|code| {
+            let (read, register) = slot::read_slot(&code, self.mask, self.register, coded);
+            next.copy_from_slice(&[self.slot + 1, register]);
+            read
+        });
+        if let [stuff] = report {
+            *stuff = read.as_ref().map_or(NO_STUFF, |read| read.stuff).into();
+        }
+        read
     }
 }
 
@@ -128,21 +152,25 @@ pub fn pass(state: &State, next: &mut [u32]) -> u8 {
 
 /// Codes the next slot.
 pub fn code_slot(state: &State, table: &[u16], source: &[u8], coded: &mut [u8], next: &mut [u32]) -> u8 {
-    number(state.accept(table, source, coded, next).map(|code| {
+    let fixed = [coded.len(), next.len()] == [slot::OCTETS, 2];
+    number(state.accept(table, |group| fixed && source.len() == group.source_octets()).map(|code| {
         let (made, register) = slot::code_slot(&code, state.mask, state.register, source);
         coded.copy_from_slice(&made);
         next.copy_from_slice(&[state.slot + 1, register]);
     }))
 }
 
-/// Reads the next slot; a slot that fails a check moves the state on all the same.
-pub fn read_slot(state: &State, table: &[u16], coded: &[u8], source: &mut [u8], next: &mut [u32]) -> u8 {
-    number(state.accept(table, source, coded, next).and_then(|code| {
-        let (read, register) = slot::read_slot(&code, state.mask, state.register, coded);
-        next.copy_from_slice(&[state.slot + 1, register]);
-        source.copy_from_slice(&read?);
-        Ok(())
-    }))
+/// Reads the next slot.
+pub fn read_slot(
+    state: &State,
+    table: &[u16],
+    coded: &[u8],
+    source: &mut [u8],
+    report: &mut [u16],
+    next: &mut [u32],
+) -> u8 {
+    let read = state.read(table, coded, report, next, |group| source.len() == group.source_octets());
+    number(read.map(|read| source.copy_from_slice(&read.source)))
 }
 
 /// Codes the next slot from its header and packets. What is wrong with the packets comes before what is wrong with the slot.
@@ -161,24 +189,24 @@ pub fn code_packets(
     }))
 }
 
-/// Reads the next slot into its header and packets; a slot that fails a check moves the state on all the same.
+/// Reads the next slot into its header and packets.
 pub fn read_packets(
     state: &State,
     table: &[u16],
     coded: &[u8],
     header: &mut [u8],
     packets: &mut [u8],
+    report: &mut [u16],
     next: &mut [u32],
 ) -> u8 {
-    number(state.group().and_then(|group| {
+    let lengths_hold = |group: &Group| {
         let count = packets::packets_of(group.rate).expect("an accepted plan has known rates");
-        if (header.len(), packets.len()) != (HEADER, 188 * count) {
-            return Err(LENGTH_WRONG);
-        }
-        let mut source = vec![0; group.source_octets()];
-        accepted(read_slot(state, table, coded, &mut source, next))?;
-        header.copy_from_slice(&source[..HEADER]);
-        accepted(packets::unpack(group.rate, &source[HEADER..], packets))
+        [header.len(), packets.len()] == [HEADER, 188 * count]
+    };
+    number(state.read(table, coded, report, next, lengths_hold).and_then(|read| {
+        let (head, data) = read.source.split_at(HEADER);
+        header.copy_from_slice(head);
+        accepted(packets::unpack(state.group()?.rate, data, packets))
     }))
 }
 
@@ -264,10 +292,10 @@ mod tests {
         assert_eq!(code_slot(&state(&plan, 120, 5), &table, &source, &mut coded, &mut next), 0);
         let after = next;
         coded[0] ^= 1;
-        let mut found = octets(2, source.len());
+        let (mut found, mut report) = (octets(2, source.len()), [7]);
         next = [0, 0];
-        assert_eq!(read_slot(&state(&plan, 120, 5), &table, &coded, &mut found, &mut next), PARITY_WRONG);
-        assert_eq!((next, next[0]), (after, 121));
+        assert_eq!(read_slot(&state(&plan, 120, 5), &table, &coded, &mut found, &mut report, &mut next), PARITY_WRONG);
+        assert_eq!((next, next[0], report), (after, 121, [255]));
         assert_eq!(found, octets(2, source.len()));
         assert_eq!(check_parity(11, &table, &coded), PARITY_WRONG);
         assert_eq!([check_parity(0, &table, &coded), check_parity(12, &table, &coded)], [1, 1]);
@@ -284,9 +312,34 @@ mod tests {
         let source = [&header[..], &data].concat();
         assert_eq!((slot.clone(), next[1]), slot::code_slot(&code, MASK, 5, &source));
 
-        let (mut head, mut back, mut moved) = (vec![0; HEADER], vec![0; 1880], [0, 0]);
-        assert_eq!(read_packets(&state(&plan, 1, 5), &table, &slot, &mut head, &mut back, &mut moved), 0);
-        assert_eq!((head, back, moved), (header, packets, next));
+        let (mut head, mut back, mut report, mut moved) = (vec![0; HEADER], vec![0; 1880], [7], [0, 0]);
+        let at = state(&plan, 1, 5);
+        assert_eq!(read_packets(&at, &table, &slot, &mut head, &mut back, &mut report, &mut moved), 0);
+        assert_eq!((head, back, report, moved), (header, packets, [63], next));
+    }
+
+    /// The number of reading a slot of zeros, which no coder sends, into areas of these lengths, and the areas of report and
+    /// state after it.
+    fn read_into(table: &[u16], slot: u32, [source, report, next]: [usize; 3]) -> (u8, Vec<u16>, Vec<u32>) {
+        let plan = plan::plan(&[(5, 1, 120)]);
+        let (mut report, mut next) = (vec![7; report], vec![7; next]);
+        let (coded, mut source) = ([0; slot::OCTETS], vec![0; source]);
+        let number = read_slot(&state(&plan, slot, 5), table, &coded, &mut source, &mut report, &mut next);
+        (number, report, next)
+    }
+
+    #[test]
+    fn every_refusal_reports_255_where_the_report_has_its_length() {
+        let table = printed([1]);
+        assert_eq!(read_into(&table, 0, [1892, 1, 2]), (1, vec![255], vec![7, 7]));
+        assert_eq!(read_into(&table, 121, [1892, 2, 2]), (3, vec![7, 7], vec![7, 7]));
+        assert_eq!(read_into(&[], 1, [1892, 0, 2]), (4, vec![], vec![7, 7]));
+        assert_eq!(read_into(&[], 1, [1892, 2, 2]), (4, vec![7, 7], vec![7, 7]));
+        assert_eq!(read_into(&[], 1, [1891, 1, 2]), (4, vec![255], vec![7, 7]));
+        assert_eq!(read_into(&[], 1, [1892, 1, 3]), (4, vec![255], vec![7, 7, 7]));
+        assert_eq!(read_into(&[], 1, [1892, 1, 2]), (5, vec![255], vec![7, 7]));
+        let (number, report, next) = read_into(&table, 1, [1892, 1, 2]);
+        assert_eq!((number, report, next[0]), (9, vec![255], 2));
     }
 
     #[test]

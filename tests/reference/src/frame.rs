@@ -2,7 +2,7 @@
 //! and standing still over parity and dummies (document 002, 2.2.1.6 (1)).
 use crate::plan::{self, Group, SLOTS};
 use crate::slot::{self, code_slot, read_slot, Code, WIDTH};
-use crate::slot::{DUMMY, LENGTH_WRONG, REGISTER_WRONG, TABLE_WRONG};
+use crate::slot::{DUMMY, LENGTH_WRONG, NO_STUFF, REGISTER_WRONG, TABLE_WRONG};
 use crate::{dispersal, tables};
 
 pub const OCTETS: usize = SLOTS * slot::OCTETS;
@@ -51,8 +51,9 @@ pub fn code(plan: &[Group], mask: u32, start: u32, tables: &[u16], source: &[u8]
     0
 }
 
-/// Reads the data slots into the source's places and writes an answer for each slot. The places of a slot that fails a
-/// check stay untouched; the register goes on after it all the same, so that the slots behind it can be read.
+/// Reads the data slots into the source's places, and writes an answer and the stuff bits for each slot, 255 where the answer
+/// isn't 0. The places of a slot that fails a check stay untouched; the register goes on after it all the same, so that the
+/// slots behind it can be read.
 pub fn read(
     plan: &[Group],
     mask: u32,
@@ -61,23 +62,28 @@ pub fn read(
     frame: &[u8],
     source: &mut [u8],
     answers: &mut [u8],
+    stuff: &mut [u8],
 ) -> u8 {
-    let lengths_hold =
-        || source.len() == plan::source_octets(plan) && frame.len() == OCTETS && answers.len() == SLOTS;
+    let lengths_hold = || {
+        let lengths = [source.len(), frame.len(), answers.len(), stuff.len()];
+        lengths == [plan::source_octets(plan), OCTETS, SLOTS, SLOTS]
+    };
     let codes = match accept(plan, mask, start, tables, lengths_hold) {
         Ok(codes) => codes,
         Err(number) => return number,
     };
     let (mut register, mut from) = (start, 0);
-    for ((place, part), answer) in plan::places(plan).into_iter().zip(frame.chunks(slot::OCTETS)).zip(answers) {
-        *answer = DUMMY;
+    answers.fill(DUMMY);
+    stuff.fill(NO_STUFF);
+    for (k, (place, part)) in plan::places(plan).into_iter().zip(frame.chunks(slot::OCTETS)).enumerate() {
         if place.data {
             let code = &codes[place.group];
             let to = from + code.message_bits() / 8;
             let (read, after) = read_slot(code, mask, register, part);
-            *answer = read.as_ref().err().copied().unwrap_or(0);
-            if let Ok(octets) = read {
-                source[from..to].copy_from_slice(&octets);
+            answers[k] = read.as_ref().err().copied().unwrap_or(0);
+            if let Ok(read) = read {
+                source[from..to].copy_from_slice(&read.source);
+                stuff[k] = read.stuff;
             }
             (register, from) = (after, to);
         }
@@ -89,7 +95,7 @@ pub fn read(
 mod tests {
     use super::*;
     use crate::samples::{octets, MASK, START};
-    use crate::slot::{BCH_WRONG, PARITY_WRONG, STUFF_WRONG};
+    use crate::slot::{BCH_WRONG, PARITY_WRONG};
     use crate::tables::{printed, tables};
     use crate::vectors::{damaged, with_parity_anew};
 
@@ -159,30 +165,32 @@ mod tests {
         damage(&mut frame, 7, 3, 0);
         damage(&mut frame, 11, 1, 1892 + 24);
 
-        let (mut found, mut answers) = (octets(9, source.len()), octets(11, SLOTS));
-        assert_eq!(read(&plan, MASK, START, &lent_tables(&plan), &frame, &mut found, &mut answers), 0);
-        let first = [PARITY_WRONG, 0, 0, 0, DUMMY, 0, BCH_WRONG, DUMMY, DUMMY, DUMMY, STUFF_WRONG];
-        assert_eq!(answers, [first.as_slice(), &[0; 21], &[DUMMY; 88]].concat());
+        let [mut found, mut answers, mut stuff] = [octets(9, source.len()), octets(11, SLOTS), octets(12, SLOTS)];
+        assert_eq!(read(&plan, MASK, START, &lent_tables(&plan), &frame, &mut found, &mut answers, &mut stuff), 0);
+        let first = [PARITY_WRONG, 0, 0, 0, DUMMY, 0, BCH_WRONG, DUMMY, DUMMY, DUMMY];
+        assert_eq!(answers, [first.as_slice(), &[0; 22], &[DUMMY; 88]].concat());
+        let first = [NO_STUFF, 63, 63, 63, NO_STUFF, 63, NO_STUFF, NO_STUFF, NO_STUFF, NO_STUFF, 31];
+        assert_eq!(stuff, [first.as_slice(), &[63; 21], &[NO_STUFF; 88]].concat());
 
-        let (of_7, of_3, of_1) = (22 + 23 * 187, 22 + 15 * 187, 22 + 10 * 187);
+        let (of_7, of_3) = (22 + 23 * 187, 22 + 15 * 187);
         let mut expected = octets(9, source.len());
-        let (slots_2_to_6, slots_12_to_32) = (of_7..4 * of_7 + of_3, 4 * of_7 + 2 * of_3 + of_1..source.len());
-        for read in [slots_2_to_6, slots_12_to_32] {
+        let (slots_2_to_6, slots_11_to_32) = (of_7..4 * of_7 + of_3, 4 * of_7 + 2 * of_3..source.len());
+        for read in [slots_2_to_6, slots_11_to_32] {
             expected[read.clone()].copy_from_slice(&source[read]);
         }
         assert!(found == expected);
     }
 
-    /// The numbers of both calls whose source, frame and answers are longer than their lengths by so much; a refusal
-    /// changes no octet.
-    fn refused(plan: &[Group], mask: u32, start: u32, tables: &[u16], longer: [usize; 3]) -> [u8; 2] {
-        let lengths = [plan::source_octets(&small_plan()), OCTETS, SLOTS];
-        let [source, frame, answers] = [0, 1, 2].map(|k| octets(k as u64, lengths[k] + longer[k]));
-        let [mut found, mut made, mut told] = [source.clone(), frame.clone(), answers.clone()];
+    /// The numbers of both calls whose source, frame, answers and stuff bits are longer than their lengths by so much; a
+    /// refusal changes no octet.
+    fn refused(plan: &[Group], mask: u32, start: u32, tables: &[u16], longer: [usize; 4]) -> [u8; 2] {
+        let lengths = [plan::source_octets(&small_plan()), OCTETS, SLOTS, SLOTS];
+        let [source, frame, answers, stuff] = [0, 1, 2, 3].map(|k| octets(k as u64, lengths[k] + longer[k]));
+        let [mut found, mut made, mut told, mut bits] = [source.clone(), frame.clone(), answers.clone(), stuff.clone()];
         let coding = code(plan, mask, start, tables, &source, &mut made);
-        let reading = read(plan, mask, start, tables, &frame, &mut found, &mut told);
+        let reading = read(plan, mask, start, tables, &frame, &mut found, &mut told, &mut bits);
         assert!(coding == 0 || made == frame);
-        assert!(reading == 0 || (found == source && told == answers));
+        assert!(reading == 0 || [found, told, bits] == [source, answers, stuff]);
         [coding, reading]
     }
 
@@ -191,14 +199,15 @@ mod tests {
         let (good, bad) = (small_plan(), plan::plan(&[(4, 7, 115)]));
         let tables = lent_tables(&good);
         let (short, above) = (&tables[1..], 1 << 25);
-        assert_eq!(refused(&bad, above, 0, short, [1, 1, 1]), [15, 15]);
-        assert_eq!(refused(&good, above, START, short, [1, 1, 1]), [6, 6]);
-        assert_eq!(refused(&good, MASK, 0, short, [1, 1, 1]), [6, 6]);
-        assert_eq!(refused(&good, MASK, START, short, [1, 0, 0]), [4, 4]);
-        assert_eq!(refused(&good, MASK, START, short, [0, 1, 0]), [4, 4]);
-        assert_eq!(refused(&good, MASK, START, short, [0, 0, 1]), [5, 4]);
-        assert_eq!(refused(&good, MASK, START, short, [0, 0, 0]), [5, 5]);
-        assert_eq!(refused(&good, MASK, START, &[&tables[..], &[1]].concat(), [0, 0, 0]), [5, 5]);
-        assert_eq!(refused(&good, MASK, START, &tables, [0, 0, 0]), [0, 0]);
+        assert_eq!(refused(&bad, above, 0, short, [1; 4]), [15, 15]);
+        assert_eq!(refused(&good, above, START, short, [1; 4]), [6, 6]);
+        assert_eq!(refused(&good, MASK, 0, short, [1; 4]), [6, 6]);
+        assert_eq!(refused(&good, MASK, START, short, [1, 0, 0, 0]), [4, 4]);
+        assert_eq!(refused(&good, MASK, START, short, [0, 1, 0, 0]), [4, 4]);
+        assert_eq!(refused(&good, MASK, START, short, [0, 0, 1, 0]), [5, 4]);
+        assert_eq!(refused(&good, MASK, START, short, [0, 0, 0, 1]), [5, 4]);
+        assert_eq!(refused(&good, MASK, START, short, [0; 4]), [5, 5]);
+        assert_eq!(refused(&good, MASK, START, &[&tables[..], &[1]].concat(), [0; 4]), [5, 5]);
+        assert_eq!(refused(&good, MASK, START, &tables, [0; 4]), [0, 0]);
     }
 }

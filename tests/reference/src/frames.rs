@@ -27,11 +27,11 @@ fn coded_frame(plan: &[Group], source: &[u8]) -> (u8, Vec<u8>) {
     (number, area)
 }
 
-/// The number of reading a frame, the answers, and the source's area after it, both filled before.
-fn read_frame(plan: &[Group], coded: &[u8]) -> (u8, Vec<u8>, Vec<u8>) {
-    let (mut source, mut answers) = (octets(9, plan::source_octets(plan)), vec![11; SLOTS]);
-    let number = frame::read(plan, MASK, START, &lent_tables(plan), coded, &mut source, &mut answers);
-    (number, answers, source)
+/// The number of reading a frame, and the areas of answers, stuff bits and source after it, all filled before.
+fn read_frame(plan: &[Group], coded: &[u8]) -> (u8, [Vec<u8>; 3]) {
+    let (mut answers, mut stuff, mut source) = (vec![11; SLOTS], vec![11; SLOTS], octets(9, plan::source_octets(plan)));
+    let number = frame::read(plan, MASK, START, &lent_tables(plan), coded, &mut source, &mut answers, &mut stuff);
+    (number, [answers, stuff, source])
 }
 
 /// A frame with the first bits of a few slots turned round, be they data slots or dummies.
@@ -40,7 +40,7 @@ fn damaged_frame(coded: &[u8]) -> Vec<u8> {
 }
 
 fn print_read(title: &str, plan: &[Group], coded: &[u8]) {
-    let (number, answers, source) = read_frame(plan, coded);
+    let (number, [answers, _, source]) = read_frame(plan, coded);
     println!("{title} read {number} answers {} digest {}", digest(&answers), digest(&source));
 }
 
@@ -62,7 +62,7 @@ pub fn print() {
 #[cfg(test)]
 mod tests {
     use super::*;
-    use crate::slot::{DUMMY, PARITY_WRONG};
+    use crate::slot::{DUMMY, NO_STUFF, PARITY_WRONG};
 
     #[test]
     fn the_plans_are_accepted() {
@@ -71,15 +71,24 @@ mod tests {
         assert!(plans.iter().all(|plan| plan::accept(plan).is_ok()));
     }
 
+    /// The answers and the source read of a frame whose slots were sent with six ones.
+    fn answers_and_source(plan: &[Group], coded: &[u8]) -> (Vec<u8>, Vec<u8>) {
+        let (number, [answers, stuff, source]) = read_frame(plan, coded);
+        assert_eq!(number, 0);
+        let ones = |answer: &u8| if *answer == 0 { 63 } else { NO_STUFF };
+        assert_eq!(stuff, answers.iter().map(ones).collect::<Vec<_>>());
+        (answers, source)
+    }
+
     /// The answers of a frame as coded, whose source must come back, and of the damaged one.
     fn answers(plan: &[Group]) -> [Vec<u8>; 2] {
         let source = octets(1, plan::source_octets(plan));
         let (number, coded) = coded_frame(plan, &source);
         assert_eq!(number, 0);
-        let (number, answers, found) = read_frame(plan, &coded);
-        assert!(number == 0 && found == source);
-        let (number, when_damaged, found) = read_frame(plan, &damaged_frame(&coded));
-        assert!(number == 0 && found != source);
+        let (answers, found) = answers_and_source(plan, &coded);
+        assert!(found == source);
+        let (when_damaged, found) = answers_and_source(plan, &damaged_frame(&coded));
+        assert!(found != source);
         [answers, when_damaged]
     }
 

@@ -1,6 +1,6 @@
 //! Coding and reading by straight loops, for the benchmark alone: one octet a bit, BCH an octet at a time by a table of 256
 //! remainders, the register bit by bit, positions stepped by q, and areas that are lent and not made anew.
-use crate::slot::{Code, BCH_WRONG, PARITY_WRONG, STUFF_WRONG, WIDTH};
+use crate::slot::{Code, BCH_WRONG, PARITY_WRONG, WIDTH};
 use crate::{bch, ldpc::GROUP};
 
 type Words = [u64; 3];
@@ -132,7 +132,15 @@ impl Loops {
         after
     }
 
-    pub fn read(&self, areas: &mut Areas, mask: u32, register: u32, coded: &[u8], source: &mut [u8]) -> (u8, u32) {
+    /// Gives the stuff bits of a slot that is read, or the number of the first check that fails, and the register after it.
+    pub fn read(
+        &self,
+        areas: &mut Areas,
+        mask: u32,
+        register: u32,
+        coded: &[u8],
+        source: &mut [u8],
+    ) -> (Result<u64, u8>, u32) {
         let (message, covered) = (self.message(), self.covered());
         let Areas { bits, sums } = areas;
         expand(coded, bits);
@@ -145,16 +153,14 @@ impl Loops {
         let after = disperse(mask, register, &mut bits[..covered]);
         let mut expected = [0; 192];
         self.put_bch(bits[..message].chunks_exact(8).map(word), &mut expected);
-        let number = if !right {
-            PARITY_WRONG
+        let read = if !right {
+            Err(PARITY_WRONG)
         } else if bits[message..message + 192] != expected {
-            BCH_WRONG
-        } else if word(&bits[message + 192..covered]) != 63 {
-            STUFF_WRONG
+            Err(BCH_WRONG)
         } else {
             collect(&bits[..message], source);
-            0
+            Ok(word(&bits[message + 192..covered]))
         };
-        (number, after)
+        (read, after)
     }
 }

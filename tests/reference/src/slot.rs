@@ -5,6 +5,9 @@ pub const OCTETS: usize = 5610;
 pub const STUFF: [u8; 6] = [1; 6];
 pub const WIDTH: u32 = 25;
 
+/// What stands for the stuff bits of a slot that is refused.
+pub const NO_STUFF: u8 = 255;
+
 /// Refusals of documents 01 and 02.
 pub const PLAN_WRONG: u8 = 1;
 pub const DUMMY: u8 = 2;
@@ -15,7 +18,6 @@ pub const REGISTER_WRONG: u8 = 6;
 pub const SYNC_WRONG: u8 = 7;
 pub const PARITY_WRONG: u8 = 8;
 pub const BCH_WRONG: u8 = 9;
-pub const STUFF_WRONG: u8 = 10;
 pub const TAIL_WRONG: u8 = 11;
 pub const LABEL_WRONG: u8 = 12;
 pub const VALUE_WRONG: u8 = 13;
@@ -55,8 +57,13 @@ pub fn bits_of(octets: &[u8]) -> Vec<u8> {
     octets.iter().flat_map(|octet| (0..8).rev().map(move |k| octet >> k & 1)).collect()
 }
 
+/// Up to eight bits as a number, the first bit the highest.
+fn number_of(bits: &[u8]) -> u8 {
+    bits.iter().fold(0, |number, bit| number << 1 | bit)
+}
+
 pub fn octets_of(bits: &[u8]) -> Vec<u8> {
-    bits.chunks(8).map(|eight| eight.iter().fold(0, |octet, bit| octet << 1 | bit)).collect()
+    bits.chunks(8).map(number_of).collect()
 }
 
 /// The slot of a header and its data, and the register after it.
@@ -70,21 +77,27 @@ pub fn code_slot(code: &Code, mask: u32, register: u32, source: &[u8]) -> (Vec<u
     (octets_of(&bits), after)
 }
 
-/// Header and data of a slot, or the number of the first check that fails, and the register after it in each case.
-pub fn read_slot(code: &Code, mask: u32, register: u32, coded: &[u8]) -> (Result<Vec<u8>, u8>, u32) {
+/// What is read of a slot: header and data, and the six stuff bits, which may be any, as a number.
+#[derive(Debug, PartialEq)]
+pub struct Read {
+    pub source: Vec<u8>,
+    pub stuff: u8,
+}
+
+/// What is read of a slot, or the number of the first check that fails, and the register after it in each case.
+pub fn read_slot(code: &Code, mask: u32, register: u32, coded: &[u8]) -> (Result<Read, u8>, u32) {
     let mut bits = bits_of(coded);
     let parity = bits.split_off(code.dispersed_bits());
     let parity_holds = ldpc::parity(&code.table, &bits) == parity;
     let after = dispersal::disperse(WIDTH, mask, register, &mut bits);
     let (message, checks) = bits.split_at(code.message_bits());
+    let (received, stuff) = checks.split_at(bch::BITS);
     let read = if !parity_holds {
         Err(PARITY_WRONG)
-    } else if bch::bch_bits(&code.generator, message) != checks[..bch::BITS] {
+    } else if bch::bch_bits(&code.generator, message) != received {
         Err(BCH_WRONG)
-    } else if checks[bch::BITS..] != STUFF {
-        Err(STUFF_WRONG)
     } else {
-        Ok(octets_of(message))
+        Ok(Read { source: octets_of(message), stuff: number_of(stuff) })
     };
     (read, after)
 }
@@ -119,7 +132,30 @@ mod tests {
             let source: Vec<u8> = (0..code.message_bits() / 8).map(|k| (k * k % 251) as u8).collect();
             let (coded, after) = code_slot(&code, 1 << 24 | 1, 1, &source);
             assert_eq!(coded.len(), OCTETS);
-            assert_eq!(read_slot(&code, 1 << 24 | 1, 1, &coded), (Ok(source), after));
+            assert_eq!(read_slot(&code, 1 << 24 | 1, 1, &coded), (Ok(Read { source, stuff: 63 }), after));
         }
+    }
+
+    /// What reading a slot of zeros and these stuff bits gives, and whether coding that gives the slot.
+    fn read_and_coded(stuff: [u8; 6]) -> (Result<Read, u8>, bool) {
+        let code = Code::new(tables().swap_remove(0));
+        let (mask, register) = (1 << 24 | 1, 1);
+        let mut bits = [&vec![0; code.message_bits() + bch::BITS][..], &stuff].concat();
+        dispersal::disperse(WIDTH, mask, register, &mut bits);
+        bits.extend(ldpc::parity(&code.table, &bits));
+        let slot = octets_of(&bits);
+        let (coded, after) = code_slot(&code, mask, register, &vec![0; code.message_bits() / 8]);
+        let (read, moved) = read_slot(&code, mask, register, &slot);
+        assert_eq!(moved, after);
+        (read, coded == slot)
+    }
+
+    #[test]
+    fn any_stuff_bits_are_read_and_ones_alone_are_coded() {
+        let read = |stuff| Ok(Read { source: vec![0; 1892], stuff });
+        assert_eq!(read_and_coded([0; 6]), (read(0), false));
+        assert_eq!(read_and_coded([1, 0, 0, 0, 0, 0]), (read(32), false));
+        assert_eq!(read_and_coded([0, 0, 0, 0, 0, 1]), (read(1), false));
+        assert_eq!(read_and_coded([1; 6]), (read(63), true));
     }
 }

@@ -26,7 +26,7 @@ fn read_line(title: &str, code: &Code, register: u32, coded: &[u8]) {
     let (read, after) = read_slot(code, MASK, register, coded);
     let check = if with_parity_anew(code, coded) == coded { 0 } else { PARITY_WRONG };
     let number = read.as_ref().err().copied().unwrap_or(0);
-    let source = read.unwrap_or_else(|_| octets(0, code.message_bits() / 8));
+    let source = read.map_or_else(|_| octets(0, code.message_bits() / 8), |read| read.source);
     println!("{title} read {number} check {check} register {after} digest {}", digest(&source));
 }
 
