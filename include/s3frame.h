@@ -18,7 +18,7 @@ extern "C" {
 #endif
 
 /* The version of the library: 10,000 times the major number, 100 times the minor one, and the patch number. */
-#define S3_VERSION 500
+#define S3_VERSION 600
 
 /* A result that nobody looks at is a mistake, of which the compiler warns. */
 #if defined(__cplusplus) && __cplusplus >= 201703L
@@ -42,7 +42,6 @@ extern "C" {
 #define S3_SYNC 7u      /* a TS packet doesn't begin 0x47 */
 #define S3_PARITY 8u    /* a received LDPC parity bit is wrong */
 #define S3_BCH 9u       /* the received BCH bits are wrong */
-#define S3_STUFF 10u    /* the received stuff bits are not all ones */
 #define S3_TAIL 11u     /* one of the last two TMCC bits is 1 */
 #define S3_LABEL 12u    /* a label is 2^modulation or more */
 #define S3_VALUE 13u    /* a group's modulation or rate is unknown, or its slots are 0 or no multiple of 5 */
@@ -54,14 +53,15 @@ extern "C" {
 /* The word of a number; that of 0 is "accepted", and a number that no call answers has none, "unknown". */
 S3_RESULT static inline const char *s3_word(uint32_t number) {
     static const char *const words[] = {"accepted", "plan", "dummy", "full", "length", "table", "register", "sync",
-                                        "parity", "BCH", "stuff", "tail", "label", "value", "order", "total",
+                                        "parity", "BCH", "unknown", "tail", "label", "value", "order", "total",
                                         "packet", "block"};
     return number < sizeof words / sizeof *words ? words[number] : "unknown";
 }
 
 /* Lengths of areas. */
 #define S3_NEXT 2u                /* numbers of `next`: next slot, register */
-#define S3_SLOTS 120u             /* slots of a frame, and answer octets of s3_read_frame */
+#define S3_REPORT 1u              /* numbers of `report`: the stuff bits */
+#define S3_SLOTS 120u             /* slots of a frame, and octets of `answers` and of `stuff` of s3_read_frame */
 #define S3_SLOT_OCTETS 5610u      /* octets of a coded slot */
 #define S3_FRAME_OCTETS 673200u   /* octets of a coded frame: slot s begins at 5,610 * (s - 1) */
 #define S3_HEADER_OCTETS 22u      /* octets of a slot's header */
@@ -81,6 +81,10 @@ S3_RESULT static inline const char *s3_word(uint32_t number) {
 
 /* What stands for no octet of a slot where the TLV calls report one or take one. */
 #define S3_NO_BEGIN 65535u
+
+/* The six stuff bits of a slot are a number from 0 to 63, the first bit the highest. */
+#define S3_STUFF_ONES 63u /* six ones, which coding sends */
+#define S3_NO_STUFF 255u  /* what stands for no stuff bits */
 
 /* Rates 1 to 11 are 1/3, 2/5, 1/2, 3/5, 2/3, 3/4, 7/9, 4/5, 5/6, 7/8, 9/10.
  * P, the packets of a slot, are 10, 12, 15, 18, 20, 22, 23, 24, 25, 26, 27: s3_packets_of.
@@ -144,15 +148,18 @@ S3_RESULT uint32_t s3_code_slot(const uint8_t *plan, size_t plan_length, uint32_
                                 size_t source_length, uint8_t *coded, size_t coded_length, uint32_t *next,
                                 size_t next_length);
 
-/* Reads one data slot.
+/* Reads one data slot; its stuff bits may be any. Coding what was read gives the same slot only where their number is
+ * S3_STUFF_ONES; for other numbers it gives the slot with ones there and its parity made anew.
  *   coded   5,610 octets
  *   source  22 + 187 * P octets: header and data
- *   next    2 numbers: the next slot, and the register there; written with 0, and with 8, 9 and 10 too
- * Numbers: 1 (also slot 0), 13, 14, 15, 6, 3, 2 (at a dummy), 4, 5, 8, 9, 10. */
+ *   report  1 number: the stuff bits, 0 to 63; S3_NO_STUFF with a refusal
+ *   next    2 numbers: the next slot, and the register there; written with 0, and with 8 and 9 too
+ * Numbers: 1 (also slot 0), 13, 14, 15, 6, 3, 2 (at a dummy), 4, 5, 8, 9. Where report has another length it is left as
+ * found. */
 S3_RESULT uint32_t s3_read_slot(const uint8_t *plan, size_t plan_length, uint32_t mask, uint32_t start, uint32_t slot,
                                 uint32_t register_, const uint16_t *table, size_t table_length, const uint8_t *coded,
-                                size_t coded_length, uint8_t *source, size_t source_length, uint32_t *next,
-                                size_t next_length);
+                                size_t coded_length, uint8_t *source, size_t source_length, uint16_t *report,
+                                size_t report_length, uint32_t *next, size_t next_length);
 
 /* Codes one data slot from its packets.
  *   header   22 octets
@@ -166,16 +173,19 @@ S3_RESULT uint32_t s3_code_packets(const uint8_t *plan, size_t plan_length, uint
                                    size_t packets_length, uint8_t *coded, size_t coded_length, uint32_t *next,
                                    size_t next_length);
 
-/* Reads one data slot into its packets.
+/* Reads one data slot into its packets; its stuff bits may be any.
  *   coded    5,610 octets
  *   header   22 octets
  *   packets  188 * P octets: the packets, 0x47 put back
- *   next     2 numbers: the next slot, and the register there; written with 0, and with 8, 9 and 10 too
- * Numbers: 1 (also slot 0), 13, 14, 15, 6, 3, 2 (at a dummy), 4, 5, 8, 9, 10. */
+ *   report   1 number: the stuff bits, 0 to 63; S3_NO_STUFF with a refusal
+ *   next     2 numbers: the next slot, and the register there; written with 0, and with 8 and 9 too
+ * Numbers: 1 (also slot 0), 13, 14, 15, 6, 3, 2 (at a dummy), 4, 5, 8, 9. Where report has another length it is left as
+ * found. */
 S3_RESULT uint32_t s3_read_packets(const uint8_t *plan, size_t plan_length, uint32_t mask, uint32_t start,
                                    uint32_t slot, uint32_t register_, const uint16_t *table, size_t table_length,
                                    const uint8_t *coded, size_t coded_length, uint8_t *header, size_t header_length,
-                                   uint8_t *packets, size_t packets_length, uint32_t *next, size_t next_length);
+                                   uint8_t *packets, size_t packets_length, uint16_t *report, size_t report_length,
+                                   uint32_t *next, size_t next_length);
 
 /* Checks the LDPC parity of a slot, whatever its dispersal.
  *   coded  5,610 octets
@@ -191,15 +201,16 @@ S3_RESULT uint32_t s3_code_frame(const uint8_t *plan, size_t plan_length, uint32
                                  const uint16_t *tables, size_t tables_length, const uint8_t *source,
                                  size_t source_length, uint8_t *frame, size_t frame_length);
 
-/* Reads a whole frame.
+/* Reads a whole frame; the stuff bits of its slots may be any.
  *   frame    673,200 octets
  *   source   the octets of all data slots, end to end; those of a slot that is not read with 0 are left as found
- *   answers  120 octets, one for each slot: 0, 2 for a dummy, or 8, 9, 10
+ *   answers  120 octets, one for each slot: 0, 2 for a dummy, or 8, 9
+ *   stuff    120 octets, one for each slot: the stuff bits, 0 to 63, or S3_NO_STUFF where the slot's answer isn't 0
  * Numbers: 1, 13, 14, 15, 6, 4, 5. */
 S3_RESULT uint32_t s3_read_frame(const uint8_t *plan, size_t plan_length, uint32_t mask, uint32_t start,
                                  const uint16_t *tables, size_t tables_length, const uint8_t *frame,
                                  size_t frame_length, uint8_t *source, size_t source_length, uint8_t *answers,
-                                 size_t answers_length);
+                                 size_t answers_length, uint8_t *stuff, size_t stuff_length);
 
 /* Codes a TMCC block, under a parity table of rate 3.
  *   source  1,178 octets: 9,422 bits, and two zeros
