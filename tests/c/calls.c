@@ -94,6 +94,7 @@ static void words(void)
     EXPECT(strcmp(s3_word(S3_VALUE), "value") == 0 && strcmp(s3_word(S3_ORDER), "order") == 0);
     EXPECT(strcmp(s3_word(S3_TOTAL), "total") == 0 && strcmp(s3_word(S3_PACKET), "packet") == 0);
     EXPECT(strcmp(s3_word(S3_BLOCK), "block") == 0);
+    EXPECT(strcmp(s3_word(10), "unknown") == 0 && strcmp(s3_word(S3_TAIL), "tail") == 0);
     EXPECT(strcmp(s3_word(18), "unknown") == 0 && strcmp(s3_word(UINT32_MAX), "unknown") == 0);
 }
 
@@ -188,8 +189,8 @@ static const struct {
  * lengths are. Slot 0 comes before the plan. */
 static void refusing_plans(void)
 {
-    uint8_t given[1] = {FOUND}, octets[1] = {FOUND}, more[1] = {FOUND};
-    uint16_t table[1] = {FOUND};
+    uint8_t given[1] = {FOUND}, octets[1] = {FOUND}, more[1] = {FOUND}, stuff[1] = {FOUND};
+    uint16_t table[1] = {FOUND}, report[2] = {FOUND, FOUND};
     uint32_t next[1] = {FOUND};
     for (size_t k = 0; k < COUNT(refused_plans); k++) {
         const uint8_t *const plan = refused_plans[k].octets;
@@ -197,8 +198,10 @@ static void refusing_plans(void)
         const uint32_t number = refused_plans[k].number;
 #define PASS(slot) s3_pass(plan, n, 0, 0, slot, 0, next, 1)
 #define CODE_SLOT(slot) s3_code_slot(plan, n, 0, 0, slot, 0, table, 1, given, 1, octets, 1, next, 1)
-#define READ_SLOT(slot) s3_read_slot(plan, n, 0, 0, slot, 0, table, 1, given, 1, octets, 1, next, 1)
+#define READ_SLOT(slot) s3_read_slot(plan, n, 0, 0, slot, 0, table, 1, given, 1, octets, 1, report, 2, next, 1)
 #define FROM_PACKETS(slot) s3_code_packets(plan, n, 0, 0, slot, 0, table, 1, given, 1, given, 1, octets, 1, next, 1)
+#define READ_INTO_PACKETS(slot) \
+    s3_read_packets(plan, n, 0, 0, slot, 0, table, 1, given, 1, octets, 1, more, 1, report, 2, next, 1)
         EXPECT(s3_source_octets(plan, n) == 0 && s3_tables_entries(plan, n) == 0);
         EXPECT(s3_place(plan, n, 121, next, 1) == number && s3_place(plan, n, 0, next, 1) == S3_PLAN);
         EXPECT(s3_published_tables(plan, n, table, 1) == number && s3_open(plan, n, 0, 0, next, 1) == number);
@@ -206,11 +209,12 @@ static void refusing_plans(void)
         EXPECT(CODE_SLOT(121) == number && CODE_SLOT(0) == S3_PLAN);
         EXPECT(READ_SLOT(121) == number && READ_SLOT(0) == S3_PLAN);
         EXPECT(FROM_PACKETS(121) == number && FROM_PACKETS(0) == S3_PLAN);
-        EXPECT(s3_read_packets(plan, n, 0, 0, 1, 0, table, 1, given, 1, octets, 1, more, 1, next, 1) == number);
+        EXPECT(READ_INTO_PACKETS(121) == number && READ_INTO_PACKETS(0) == S3_PLAN);
         EXPECT(s3_code_frame(plan, n, 0, 0, table, 1, given, 1, octets, 1) == number);
-        EXPECT(s3_read_frame(plan, n, 0, 0, table, 1, given, 1, octets, 1, more, 1) == number);
+        EXPECT(s3_read_frame(plan, n, 0, 0, table, 1, given, 1, octets, 1, more, 1, stuff, 1) == number);
     }
-    EXPECT(octets[0] == FOUND && more[0] == FOUND && table[0] == FOUND && next[0] == FOUND);
+    EXPECT(octets[0] == FOUND && more[0] == FOUND && stuff[0] == FOUND);
+    EXPECT(table[0] == FOUND && report[0] == FOUND && report[1] == FOUND && next[0] == FOUND);
 }
 
 static void passing(void)
@@ -230,22 +234,32 @@ static void passing(void)
     EXPECT(s3_pass(mixed, sizeof mixed, mask, start, 120, 6, next, 2) == S3_ACCEPTED && at(next, 121, 6));
 }
 
-/* Makes the parity of a slot of rate 1 anew, after document 01, "Checks in the slot". */
-static void new_parity(uint8_t *slot)
+enum { ROWS_1 = 41, ROWS_3 = 61, ROWS_7 = 93 };
+
+/* Makes the parity of a slot anew, after document 01, "Checks in the slot": a table of so many rows. */
+static void new_parity(uint8_t *slot, size_t rows, const uint16_t *row)
 {
-    enum { ROWS = 41, STEP = 120 - ROWS, POSITIONS = 374 * STEP, COVERED = 374 * ROWS };
-    static uint8_t sums[POSITIONS];
-    const uint16_t *row = table1;
+    static uint8_t sums[8 * S3_SLOT_OCTETS];
+    const size_t step = 120 - rows, positions = 374 * step, covered = 374 * rows;
     memset(sums, 0, sizeof sums);
-    for (size_t r = 0; r < ROWS; r++, row += 1 + row[0]) {
+    for (size_t r = 0; r < rows; r++, row += 1 + row[0]) {
         for (size_t m = 0; m < 374; m++) {
-            for (size_t k = 1; k <= row[0]; k++) sums[(row[k] + m * STEP) % POSITIONS] ^= (uint8_t)bit(slot, 374 * r + m);
+            for (size_t k = 1; k <= row[0]; k++) sums[(row[k] + m * step) % positions] ^= (uint8_t)bit(slot, 374 * r + m);
         }
     }
-    for (size_t i = 0; i < POSITIONS; i++) {
+    for (size_t i = 0; i < positions; i++) {
         if (i > 0) sums[i] ^= sums[i - 1];
-        if (bit(slot, COVERED + i) != sums[i]) flip(slot, COVERED + i);
+        if (bit(slot, covered + i) != sums[i]) flip(slot, covered + i);
     }
+}
+
+/* Puts stuff bits in place of the ones of a coded slot, and makes its parity anew. */
+static void put_stuff(uint8_t *slot, size_t rows, const uint16_t *table, uint32_t stuff)
+{
+    for (size_t k = 0; k < 6; k++) {
+        if ((stuff >> (5 - k) & 1u) == 0) flip(slot, 374 * rows - 6 + k);
+    }
+    new_parity(slot, rows, table);
 }
 
 static uint8_t source1[SOURCE_1], slot1[S3_SLOT_OCTETS];
@@ -282,38 +296,69 @@ static void reading_a_slot(void)
 {
     static uint8_t back[SOURCE_1], damaged[S3_SLOT_OCTETS];
     uint32_t next[2] = {7, 8};
+    uint16_t report[2] = {FOUND, FOUND};
     const size_t plan = sizeof lowest, table = COUNT(table1);
     memset(back, FOUND, sizeof back);
-#define READ(slot, held, from, octets, next_length) \
-    s3_read_slot(lowest, plan, mask, start, slot, held, table1, table, from, 5610, back, octets, next, next_length)
-    EXPECT(READ(0, 1, slot1, SOURCE_1, 2) == S3_PLAN);
-    EXPECT(READ(1, 0, slot1, SOURCE_1, 2) == S3_REGISTER);
-    EXPECT(READ(121, 1, slot1, SOURCE_1, 2) == S3_FULL);
-    EXPECT(READ(1, 1, slot1, SOURCE_1 - 1, 2) == S3_LENGTH);
-    EXPECT(READ(1, 1, slot1, SOURCE_1, 0) == S3_LENGTH);
+#define READ(slot, held, from, octets, count, next_length)                                                             \
+    (report[0] = FOUND, s3_read_slot(lowest, plan, mask, start, slot, held, table1, table, from, 5610, back, octets,   \
+                                     report, count, next, next_length))
+    EXPECT(READ(0, 1, slot1, SOURCE_1, 1, 2) == S3_PLAN && report[0] == S3_NO_STUFF);
+    EXPECT(READ(1, 0, slot1, SOURCE_1, 1, 2) == S3_REGISTER && report[0] == S3_NO_STUFF);
+    EXPECT(READ(121, 1, slot1, SOURCE_1, 1, 2) == S3_FULL && report[0] == S3_NO_STUFF);
+    EXPECT(READ(121, 1, slot1, SOURCE_1, 2, 2) == S3_FULL && report[0] == FOUND);
+    EXPECT(READ(1, 1, slot1, SOURCE_1 - 1, 1, 2) == S3_LENGTH && report[0] == S3_NO_STUFF);
+    EXPECT(READ(1, 1, slot1, SOURCE_1, 1, 0) == S3_LENGTH && report[0] == S3_NO_STUFF);
+    EXPECT(READ(1, 1, slot1, SOURCE_1, 0, 2) == S3_LENGTH && report[0] == FOUND);
+    EXPECT(READ(1, 1, slot1, SOURCE_1, 2, 2) == S3_LENGTH && report[0] == FOUND);
+    EXPECT(READ(1, 1, slot1, SOURCE_1, 2, 1) == S3_LENGTH && report[0] == FOUND);
     EXPECT(at(next, 7, 8));
     memcpy(damaged, slot1, sizeof damaged);
     flip(damaged, 44879);
-    EXPECT(READ(1, 1, damaged, SOURCE_1, 2) == S3_PARITY && at(next, 2, 512));
+    EXPECT(READ(1, 1, damaged, SOURCE_1, 1, 2) == S3_PARITY && at(next, 2, 512) && report[0] == S3_NO_STUFF);
     memcpy(damaged, slot1, sizeof damaged);
     flip(damaged, 176);
-    new_parity(damaged);
-    EXPECT(READ(2, 1, damaged, SOURCE_1, 2) == S3_BCH && at(next, 3, 512));
-    memcpy(damaged, slot1, sizeof damaged);
-    flip(damaged, 374 * 41 - 1);
-    new_parity(damaged);
-    EXPECT(READ(3, 1, damaged, SOURCE_1, 2) == S3_STUFF && at(next, 4, 512));
+    new_parity(damaged, ROWS_1, table1);
+    EXPECT(READ(2, 1, damaged, SOURCE_1, 1, 2) == S3_BCH && at(next, 3, 512) && report[0] == S3_NO_STUFF);
     EXPECT(untouched(back, sizeof back));
-    EXPECT(READ(1, 1, slot1, SOURCE_1, 2) == S3_ACCEPTED && at(next, 2, 512));
-    EXPECT(memcmp(back, source1, sizeof back) == 0);
+    EXPECT(READ(1, 1, slot1, SOURCE_1, 1, 2) == S3_ACCEPTED && at(next, 2, 512) && report[0] == S3_STUFF_ONES);
+    EXPECT(memcmp(back, source1, sizeof back) == 0 && report[1] == FOUND);
+}
+
+static void checking_parity(void)
+{
+    static uint8_t other[S3_SLOT_OCTETS];
+    const size_t table = COUNT(table1);
+    memcpy(other, slot1, sizeof other);
+    put_stuff(other, ROWS_1, table1, 62);
     EXPECT(s3_check_parity(1, table1, table, slot1, sizeof slot1) == S3_ACCEPTED);
-    EXPECT(s3_check_parity(1, table1, table, damaged, sizeof damaged) == S3_ACCEPTED);
-    flip(damaged, 44879);
-    EXPECT(s3_check_parity(1, table1, table, damaged, sizeof damaged) == S3_PARITY);
+    EXPECT(s3_check_parity(1, table1, table, other, sizeof other) == S3_ACCEPTED);
+    flip(other, 44879);
+    EXPECT(s3_check_parity(1, table1, table, other, sizeof other) == S3_PARITY);
     EXPECT(s3_check_parity(1, table1, table - 1, slot1, sizeof slot1) == S3_TABLE);
     EXPECT(s3_check_parity(1, table1, table - 1, slot1, 5609) == S3_LENGTH);
     EXPECT(s3_check_parity(12, table1, table, slot1, 5609) == S3_PLAN);
     EXPECT(s3_check_parity(65537, table1, table, slot1, sizeof slot1) == S3_PLAN);
+}
+
+/* A slot is read with any stuff bits, and what is read of it is coded as slot1, which alone has six ones. */
+static void reading_stuff_bits(void)
+{
+    static uint8_t back[SOURCE_1], sent[S3_SLOT_OCTETS], again[S3_SLOT_OCTETS];
+    uint32_t next[2];
+    uint16_t report[1];
+    const size_t plan = sizeof lowest, table = COUNT(table1);
+    for (uint32_t stuff = 0; stuff < 64; stuff++) {
+        memcpy(sent, slot1, sizeof sent);
+        put_stuff(sent, ROWS_1, table1, stuff);
+        memset(back, FOUND, sizeof back);
+        EXPECT(s3_read_slot(lowest, plan, mask, start, 3, 1, table1, table, sent, sizeof sent, back, sizeof back, report,
+                            S3_REPORT, next, S3_NEXT) == S3_ACCEPTED);
+        EXPECT(report[0] == stuff && at(next, 4, 512) && memcmp(back, source1, sizeof back) == 0);
+        EXPECT(s3_code_slot(lowest, plan, mask, start, 3, 1, table1, table, back, sizeof back, again, sizeof again, next,
+                            S3_NEXT) == S3_ACCEPTED);
+        EXPECT(memcmp(again, slot1, sizeof again) == 0);
+        EXPECT((memcmp(again, sent, sizeof again) == 0) == (stuff == S3_STUFF_ONES));
+    }
 }
 
 /* Header and packets of source1, whose slot is slot1. */
@@ -351,29 +396,37 @@ static void reading_packets(void)
 {
     static uint8_t header[S3_HEADER_OCTETS], back[sizeof packets1], damaged[S3_SLOT_OCTETS];
     uint32_t next[2] = {7, 8};
+    uint16_t report[2] = {FOUND, FOUND};
     const size_t plan = sizeof lowest, table = COUNT(table1);
     memset(header, FOUND, sizeof header);
     memset(back, FOUND, sizeof back);
-#define READ_PACKETS(slot, length, from, head, octets, next_length)                                                       \
-    s3_read_packets(lowest, plan, mask, start, slot, 1, table1, length, from, 5610, header, head, back, octets, next, \
-                    next_length)
-    EXPECT(READ_PACKETS(0, table, slot1, 22, 1880, 2) == S3_PLAN);
-    EXPECT(READ_PACKETS(121, table, slot1, 21, 1880, 2) == S3_FULL);
-    EXPECT(READ_PACKETS(1, table - 1, slot1, 21, 1880, 2) == S3_LENGTH);
-    EXPECT(READ_PACKETS(1, table - 1, slot1, 22, 1881, 2) == S3_LENGTH);
-    EXPECT(READ_PACKETS(1, table - 1, slot1, 22, 1880, 1) == S3_LENGTH);
-    EXPECT(READ_PACKETS(1, table - 1, slot1, 22, 1880, 2) == S3_TABLE);
+#define READ_PACKETS(slot, length, from, head, octets, count, next_length)                                             \
+    (report[0] = FOUND, s3_read_packets(lowest, plan, mask, start, slot, 1, table1, length, from, 5610, header, head,  \
+                                        back, octets, report, count, next, next_length))
+    EXPECT(READ_PACKETS(0, table, slot1, 22, 1880, 1, 2) == S3_PLAN && report[0] == S3_NO_STUFF);
+    EXPECT(READ_PACKETS(121, table, slot1, 21, 1880, 1, 2) == S3_FULL && report[0] == S3_NO_STUFF);
+    EXPECT(READ_PACKETS(1, table - 1, slot1, 21, 1880, 1, 2) == S3_LENGTH && report[0] == S3_NO_STUFF);
+    EXPECT(READ_PACKETS(1, table - 1, slot1, 22, 1881, 1, 2) == S3_LENGTH && report[0] == S3_NO_STUFF);
+    EXPECT(READ_PACKETS(1, table - 1, slot1, 22, 1880, 1, 1) == S3_LENGTH && report[0] == S3_NO_STUFF);
+    EXPECT(READ_PACKETS(1, table - 1, slot1, 22, 1880, 0, 2) == S3_LENGTH && report[0] == FOUND);
+    EXPECT(READ_PACKETS(1, table - 1, slot1, 22, 1880, 2, 2) == S3_LENGTH && report[0] == FOUND);
+    EXPECT(READ_PACKETS(1, table - 1, slot1, 22, 1880, 1, 2) == S3_TABLE && report[0] == S3_NO_STUFF);
     EXPECT(at(next, 7, 8));
     memcpy(damaged, slot1, sizeof damaged);
     flip(damaged, 44879);
-    EXPECT(READ_PACKETS(1, table, damaged, 22, 1880, 2) == S3_PARITY && at(next, 2, 512));
+    EXPECT(READ_PACKETS(1, table, damaged, 22, 1880, 1, 2) == S3_PARITY && at(next, 2, 512) && report[0] == S3_NO_STUFF);
     memcpy(damaged, slot1, sizeof damaged);
     flip(damaged, 176);
-    new_parity(damaged);
-    EXPECT(READ_PACKETS(2, table, damaged, 22, 1880, 2) == S3_BCH && at(next, 3, 512));
+    new_parity(damaged, ROWS_1, table1);
+    EXPECT(READ_PACKETS(2, table, damaged, 22, 1880, 1, 2) == S3_BCH && at(next, 3, 512) && report[0] == S3_NO_STUFF);
     EXPECT(untouched(header, sizeof header) && untouched(back, sizeof back));
-    EXPECT(READ_PACKETS(1, table, slot1, 22, 1880, 2) == S3_ACCEPTED && at(next, 2, 512));
+    memcpy(damaged, slot1, sizeof damaged);
+    put_stuff(damaged, ROWS_1, table1, 0);
+    EXPECT(READ_PACKETS(3, table, damaged, 22, 1880, 1, 2) == S3_ACCEPTED && at(next, 4, 512) && report[0] == 0);
     EXPECT(memcmp(header, header1, sizeof header) == 0 && memcmp(back, packets1, sizeof back) == 0);
+    EXPECT(READ_PACKETS(1, table, slot1, 22, 1880, 1, 2) == S3_ACCEPTED && at(next, 2, 512) && report[0] == S3_STUFF_ONES);
+    EXPECT(memcmp(header, header1, sizeof header) == 0 && memcmp(back, packets1, sizeof back) == 0);
+    EXPECT(report[1] == FOUND);
 }
 
 static uint8_t sources[MIXED_SOURCE], frame[S3_FRAME_OCTETS];
@@ -417,23 +470,31 @@ static void coding_a_frame(void)
 
 static void reading_a_frame(void)
 {
-    static uint8_t back[MIXED_SOURCE], answers[S3_SLOTS];
+    static uint8_t back[MIXED_SOURCE], answers[S3_SLOTS], stuff[S3_SLOTS + 1];
     unsigned right = 0;
     memset(back, FOUND, sizeof back);
     memset(answers, FOUND, sizeof answers);
-#define READ_FRAME(tables_length, room, count) \
-    s3_read_frame(mixed, sizeof mixed, mask, start, tables, tables_length, frame, sizeof frame, back, room, answers, count)
-    EXPECT(READ_FRAME(COUNT(tables) - 1, MIXED_SOURCE, 119) == S3_LENGTH);
-    EXPECT(READ_FRAME(COUNT(tables) - 1, MIXED_SOURCE - 1, 120) == S3_LENGTH);
-    EXPECT(READ_FRAME(COUNT(tables) - 1, MIXED_SOURCE, 120) == S3_TABLE);
-    EXPECT(untouched(back, sizeof back) && untouched(answers, sizeof answers));
+    memset(stuff, FOUND, sizeof stuff);
+#define READ_FRAME(tables_length, room, count, stuff_count)                                                            \
+    s3_read_frame(mixed, sizeof mixed, mask, start, tables, tables_length, frame, sizeof frame, back, room, answers,   \
+                  count, stuff, stuff_count)
+    EXPECT(READ_FRAME(COUNT(tables) - 1, MIXED_SOURCE, 119, 120) == S3_LENGTH);
+    EXPECT(READ_FRAME(COUNT(tables) - 1, MIXED_SOURCE - 1, 120, 120) == S3_LENGTH);
+    EXPECT(READ_FRAME(COUNT(tables) - 1, MIXED_SOURCE, 120, 0) == S3_LENGTH);
+    EXPECT(READ_FRAME(COUNT(tables) - 1, MIXED_SOURCE, 120, 119) == S3_LENGTH);
+    EXPECT(READ_FRAME(COUNT(tables) - 1, MIXED_SOURCE, 120, 121) == S3_LENGTH);
+    EXPECT(READ_FRAME(COUNT(tables) - 1, MIXED_SOURCE, 120, 120) == S3_TABLE);
+    EXPECT(untouched(back, sizeof back) && untouched(answers, sizeof answers) && untouched(stuff, sizeof stuff));
     flip(frame, 8 * S3_SLOT_OCTETS * 3 - 1);
-    EXPECT(READ_FRAME(COUNT(tables), MIXED_SOURCE, 120) == S3_ACCEPTED);
+    put_stuff(frame + 4 * S3_SLOT_OCTETS, ROWS_7, tables, 31);
+    put_stuff(frame + 115 * S3_SLOT_OCTETS, ROWS_3, table3, 0);
+    EXPECT(READ_FRAME(COUNT(tables), MIXED_SOURCE, 120, 120) == S3_ACCEPTED);
     for (uint32_t s = 1; s <= S3_SLOTS; s++) {
-        const int data = s <= 92 || s == 116 || s == 117;
-        right += answers[s - 1] == (s == 3 ? S3_PARITY : data ? S3_ACCEPTED : S3_DUMMY);
+        const uint32_t answer = s == 3 ? S3_PARITY : s <= 92 || s == 116 || s == 117 ? S3_ACCEPTED : S3_DUMMY;
+        const uint32_t bits = s == 5 ? 31 : s == 116 ? 0 : S3_STUFF_ONES;
+        right += answers[s - 1] == answer && stuff[s - 1] == (answer == S3_ACCEPTED ? bits : S3_NO_STUFF);
     }
-    EXPECT(right == S3_SLOTS);
+    EXPECT(right == S3_SLOTS && stuff[S3_SLOTS] == FOUND);
     EXPECT(untouched(back + 2 * SOURCE_7, SOURCE_7));
     memcpy(back + 2 * SOURCE_7, sources + 2 * SOURCE_7, SOURCE_7);
     EXPECT(memcmp(back, sources, sizeof back) == 0);
@@ -942,6 +1003,8 @@ int main(void)
     passing();
     coding_a_slot();
     reading_a_slot();
+    checking_parity();
+    reading_stuff_bits();
     coding_packets();
     reading_packets();
     coding_a_frame();
