@@ -2,7 +2,7 @@
 //! prints how often each answer came.
 //!
 //!     cargo run --release --offline --example one_frame
-use s3frame::{code_frame, read_frame, Group, Modulation, Plan, Rate, Refusal, SlotAnswer, SlotSettings};
+use s3frame::{code_frame, read_frame, Group, Modulation, Plan, Rate, Refusal, SlotAnswer, SlotSettings, StuffBits};
 use s3frame::{FRAME_OCTETS, SLOT_OCTETS};
 
 const GROUPS: [Group; 2] = [
@@ -16,17 +16,17 @@ const SETTINGS: SlotSettings = SlotSettings { mask: 0x123_4567, start: 1 };
 /// Document 01's number of an answer, and what it says.
 fn meaning(answer: SlotAnswer) -> (u32, &'static str) {
     match answer {
-        SlotAnswer::Read => (0, "read"),
+        SlotAnswer::Read(_) => (0, "read"),
         SlotAnswer::Dummy => (Refusal::Dummy.number(), Refusal::Dummy.word()),
         SlotAnswer::Refused(refusal) => (refusal.number(), refusal.word()),
     }
 }
 
 fn print_counts(answers: &[SlotAnswer]) {
-    let refused = [Refusal::Parity, Refusal::Bch, Refusal::Stuff].map(SlotAnswer::Refused);
-    for answer in [SlotAnswer::Read, SlotAnswer::Dummy].into_iter().chain(refused) {
-        let count = answers.iter().filter(|&&other| other == answer).count();
+    let refused = [Refusal::Parity, Refusal::Bch].map(SlotAnswer::Refused);
+    for answer in [SlotAnswer::Read(StuffBits::ONES), SlotAnswer::Dummy].into_iter().chain(refused) {
         let (number, word) = meaning(answer);
+        let count = answers.iter().filter(|&&other| meaning(other).0 == number).count();
         println!("answer {number:2} {word:6} {count:3} slots");
     }
 }

@@ -73,16 +73,16 @@ mod tests {
 
     #[test]
     fn the_numbers_and_words_of_the_documents() {
-        let words =
-            "plan dummy full length table register sync parity BCH stuff tail label value order total packet block";
-        let words: Vec<&str> = words.split(' ').collect();
+        let up_to_9 = (1..).zip("plan dummy full length table register sync parity BCH".split(' '));
+        let from_11_on = (11..).zip("tail label value order total packet block".split(' '));
+        let words: Vec<(u32, &str)> = up_to_9.chain(from_11_on).collect();
         assert_eq!(words.len(), Refusal::ALL.len());
-        for (number, word) in (1..).zip(words) {
+        for (number, word) in words {
             let refusal = Refusal::from_number(number).expect("a refusal");
             assert_eq!((refusal.number(), refusal.word()), (number, word));
             assert_eq!(answer(number), Err(refusal));
         }
-        assert_eq!([Refusal::from_number(0), Refusal::from_number(18)], [None, None]);
+        assert_eq!([0, 10, 18].map(Refusal::from_number), [None; 3]);
         assert_eq!(answer(0), Ok(()));
     }
 

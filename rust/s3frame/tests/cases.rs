@@ -2,7 +2,7 @@
 //! alone, and a frame that is full behind slot 120 and not before.
 use reference::samples::{octets, MASK, START};
 use reference::vectors::damaged;
-use s3frame::{code_frame, FrameState, Plan, Rate, Refusal, SlotSettings, FRAME_OCTETS, SLOT_OCTETS};
+use s3frame::{code_frame, FrameState, Plan, Rate, Refusal, SlotSettings, StuffBits, FRAME_OCTETS, SLOT_OCTETS};
 
 const SETTINGS: SlotSettings = SlotSettings { mask: MASK, start: START };
 
@@ -29,7 +29,7 @@ fn slots_of_equal_octets_differ_and_come_back() {
     for (state, slot, after) in [(first, slot, second), (second, next, third)] {
         let mut back = vec![0; source.len()];
         let read = state.read_slot(&Rate::R2_3.published_table(), &slot, &mut back);
-        assert_eq!((read.answer, read.state), (Ok(()), after));
+        assert_eq!((read.answer, read.state), (Ok(StuffBits::ONES), after));
         assert_eq!(back, source);
     }
 }
@@ -42,7 +42,8 @@ fn a_damaged_slot_leaves_the_state_where_a_good_one_does() {
     let mut back = vec![0; source.len()];
     let read = first.read_slot(&Rate::R2_3.published_table(), &damaged(&slot, 0), &mut back);
     assert_eq!((read.answer, read.state), (Err(Refusal::Parity), second));
-    assert_eq!(read.state.read_slot(&Rate::R2_3.published_table(), &next, &mut back).answer, Ok(()));
+    let read = read.state.read_slot(&Rate::R2_3.published_table(), &next, &mut back);
+    assert_eq!(read.answer, Ok(StuffBits::ONES));
     assert_eq!(back, source);
 }
 

@@ -1,10 +1,8 @@
 //! Whole frames beside the second implementation.
 mod common;
-use common::{code, groups, number, trials, Random};
+use common::{groups, number, trials, Random};
 use reference::frame;
-use s3frame::{
-    code_frame, read_frame, Plan, Rate, Refusal, SlotAnswer, SlotSettings, FRAME_OCTETS, SLOTS, SLOT_OCTETS,
-};
+use s3frame::{code_frame, read_frame, Plan, Rate, Refusal, SlotAnswer, SlotSettings, FRAME_OCTETS, SLOTS};
 
 /// A frame's plan, settings and tables.
 struct Frame {
@@ -31,59 +29,58 @@ impl Frame {
         ours
     }
 
-    /// Reads a frame both ways and compares; gives the source and the answers.
-    fn read(&self, random: &mut Random, coded: &[u8]) -> (Vec<u8>, Vec<u8>) {
-        let found = random.octets(self.plan.source_octets());
-        let [mut ours, mut theirs] = [found.clone(), found];
+    /// Reads a frame both ways into areas as found and compares; gives the source, and the answer and stuff bits of each slot.
+    fn read(&self, coded: &[u8], found: &[u8]) -> (Vec<u8>, Vec<(u8, u8)>) {
+        let [mut ours, mut theirs] = [found.to_vec(), found.to_vec()];
         let (tables, SlotSettings { mask, start }) = (self.tables.concat(), self.settings);
-        let (groups, mut answers) = (groups(&self.plan), random.octets(SLOTS));
-        assert_eq!(frame::read(&groups, mask, start, &tables, coded, &mut theirs, &mut answers), 0);
+        let (groups, mut answers, mut stuff) = (groups(&self.plan), [7; SLOTS], [7; SLOTS]);
+        assert_eq!(frame::read(&groups, mask, start, &tables, coded, &mut theirs, &mut answers, &mut stuff), 0);
         let read = read_frame(&self.plan, self.settings, &tables, coded, &mut ours).expect("a frame that is read");
-        assert_eq!(read.answers.map(octet).to_vec(), answers);
+        let told = read.answers.map(octets).to_vec();
+        assert_eq!(told, answers.into_iter().zip(stuff).collect::<Vec<_>>());
         assert!(ours == theirs, "what was read differs");
-        (ours, answers)
+        (ours, told)
     }
 
-    /// Damages about one slot in eight, dummies too, and gives the answers to expect.
-    fn damage(&self, random: &mut Random, coded: &mut [u8]) -> Vec<u8> {
-        let groups_and_tables = self.plan.groups().zip(&self.tables);
-        let codes: Vec<_> = groups_and_tables.map(|(group, table)| code(group.rate, table)).collect();
-        let places = reference::plan::places(&groups(&self.plan));
-        let slot = |(place, part): (&reference::plan::Place, &mut [u8])| {
-            let damage = if random.chance(8) { random.pick(&[8, 9, 10]) } else { 0 };
-            if damage != 0 {
-                part.copy_from_slice(&random.damaged(&codes[place.group], part, damage));
-            }
-            if place.data {
-                damage
-            } else {
-                2
-            }
+    /// The octets of each slot in a source, none for a dummy.
+    fn parts<'a>(&self, mut source: &'a [u8]) -> Vec<&'a [u8]> {
+        let part = |slot| {
+            let place = self.plan.place(slot).expect("a slot of the frame");
+            let (part, behind) = source.split_at(if place.data { place.rate.source_octets() } else { 0 });
+            source = behind;
+            part
         };
-        places.iter().zip(coded.chunks_mut(SLOT_OCTETS)).map(slot).collect()
+        (1..=SLOTS as u32).map(part).collect()
     }
 }
 
-/// The answer octet that the second implementation has for an answer.
-fn octet(answer: SlotAnswer) -> u8 {
+/// The answer and the stuff bits that the calls tell of a slot, an octet each.
+fn octets(answer: SlotAnswer) -> (u8, u8) {
     match answer {
-        SlotAnswer::Read => 0,
-        SlotAnswer::Dummy => Refusal::Dummy as u8,
-        SlotAnswer::Refused(refusal) => refusal as u8,
+        SlotAnswer::Read(stuff) => (0, stuff.number()),
+        SlotAnswer::Dummy => (Refusal::Dummy as u8, 255),
+        SlotAnswer::Refused(refusal) => (refusal as u8, 255),
     }
 }
 
-/// Codes a frame, reads it whole and damaged.
+/// Codes a frame, reads it as it was coded, and with any stuff bits and damaged slots.
 fn frame_of(random: &mut Random, plan: Plan) {
     let frame = Frame::new(random, plan);
     let source = random.source(plan.source_octets());
     let mut coded = frame.code(random, &source);
-    let (back, answers) = frame.read(random, &coded);
+    let found = random.octets(source.len());
+    let (back, told) = frame.read(&coded, &found);
     assert!(back == source, "the frame read is not the one coded");
-    assert!(answers.iter().all(|answer| [0, 2].contains(answer)));
-    let expected = frame.damage(random, &mut coded);
-    let (_, answers) = frame.read(random, &coded);
-    assert_eq!(answers, expected);
+    assert!(told.iter().all(|slot| [(0, 63), (2, 255)].contains(slot)));
+
+    let expected = random.receive_frame(&plan, &frame.tables, &mut coded);
+    let (back, told) = frame.read(&coded, &found);
+    assert_eq!(told, expected);
+    let [back, source, found] = [&back, &source, &found].map(|octets| frame.parts(octets));
+    for slot in 0..SLOTS {
+        let left = if told[slot].0 == 0 { source[slot] } else { found[slot] };
+        assert!(back[slot] == left, "slot {} is read, or left as found", slot + 1);
+    }
 }
 
 /// Every rate in a frame of its own, so that none is left to chance.

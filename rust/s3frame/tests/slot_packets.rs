@@ -1,6 +1,6 @@
 //! Slots of header and packets beside the second implementation.
 mod common;
-use common::{code, groups, number, place, trials, twin, Random};
+use common::{code, groups, number, number_and_stuff, place, stuffed, trials, twin, Random};
 use reference::calls;
 use s3frame::{pack, FrameState, Modulation, Rate, Refusal, HEADER_OCTETS, SLOT_OCTETS};
 
@@ -42,19 +42,26 @@ fn coded(random: &mut Random, state: FrameState, table: &[u16], sent: &Carried) 
     (ours, after)
 }
 
-/// Reads a slot both ways and compares; gives the number, what was read and the state after it.
-fn read(random: &mut Random, state: FrameState, table: &[u16], slot: &[u8], rate: Rate) -> (u32, Carried, FrameState) {
+/// Reads a slot both ways and compares; gives number and stuff bits, what was read and the state after it.
+fn read(
+    random: &mut Random,
+    state: FrameState,
+    table: &[u16],
+    slot: &[u8],
+    rate: Rate,
+) -> ((u32, u16), Carried, FrameState) {
     let found = Carried::found(random, rate);
     let [mut ours, mut theirs] = [found.clone(), found.clone()];
-    let (groups, mut next) = (groups(state.plan()), place(&state));
-    let twin = twin(&groups, &state);
-    let expected = calls::read_packets(&twin, table, slot, &mut theirs.header, &mut theirs.packets, &mut next);
+    let (groups, mut report, mut next) = (groups(state.plan()), [0], place(&state));
+    let (twin, Carried { header, packets }) = (twin(&groups, &state), &mut theirs);
+    let expected = calls::read_packets(&twin, table, slot, header, packets, &mut report, &mut next);
     let read = state.read_packets(table, slot, &mut ours.header, &mut ours.packets);
-    assert_eq!(number(read.answer), expected.into());
+    let told = number_and_stuff(read.answer);
+    assert_eq!(told, (expected.into(), report[0]));
     assert_eq!(place(&read.state), next);
     assert!(ours == theirs, "what was read differs");
     assert!(expected == 0 || ours == found, "a refused slot writes nothing");
-    (expected.into(), ours, read.state)
+    (told, ours, read.state)
 }
 
 /// The slot of a header and packets by packing and coding apart.
@@ -72,11 +79,11 @@ fn slot_of(random: &mut Random, modulation: Modulation, rate: Rate) {
     let sent = Carried::new(random, rate);
     let (slot, after) = coded(random, state, &table, &sent);
     assert!((slot.clone(), after) == packed_and_coded(state, rate, &table, &sent));
-    assert!(read(random, state, &table, &slot, rate) == (0, sent, after), "header and packets come back");
-    for damage in [8, 9, 10] {
+    assert!(read(random, state, &table, &slot, rate) == ((0, 63), sent, after), "header and packets come back");
+    for damage in [8, 9] {
         let slot = random.damaged(&code(rate, &table), &slot, damage);
-        let (number, _, moved) = read(random, state, &table, &slot, rate);
-        assert_eq!((number, moved), (damage.into(), after), "the state after damage is that after a good slot");
+        let (told, _, moved) = read(random, state, &table, &slot, rate);
+        assert_eq!((told, moved), ((damage.into(), 255), after), "the state after damage is that after a good slot");
     }
 }
 
@@ -88,6 +95,27 @@ fn every_rate_and_modulation() {
             for rate in Rate::ALL {
                 slot_of(&mut random, modulation, rate);
             }
+        }
+    }
+}
+
+/// Slots of two rates with each number of stuff bits; what was read is coded as it was sent, so that the slot received comes
+/// back with six ones alone.
+#[test]
+fn every_number_of_stuff_bits() {
+    let mut random = Random::new(84);
+    for (modulation, rate) in [(Modulation::Psk8, Rate::R1_3), (Modulation::Apsk32, Rate::R9_10)] {
+        let (state, table) = (random.state(modulation, rate), random.table(rate));
+        let sent = Carried::new(&mut random, rate);
+        let (slot, after) = coded(&mut random, state, &table, &sent);
+        for stuff in 0..64 {
+            let other = stuffed(&code(rate, &table), &slot, stuff);
+            let (told, back, moved) = read(&mut random, state, &table, &other, rate);
+            assert_eq!((told, moved), ((0, stuff.into()), after));
+            assert!(back == sent, "header and packets come back, whatever the stuff bits");
+            let (again, _) = coded(&mut random, state, &table, &back);
+            assert!(again == slot);
+            assert_eq!(again == other, stuff == 63);
         }
     }
 }

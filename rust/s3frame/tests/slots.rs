@@ -1,8 +1,8 @@
 //! Slots, one call at a time, beside the second implementation.
 mod common;
-use common::{code, groups, number, place, trials, twin, Random};
-use reference::calls;
-use reference::vectors;
+use common::{code, groups, number, number_and_stuff, place, stuffed, trials, twin, Random};
+use reference::slot::{bits_of, octets_of, Code, WIDTH};
+use reference::{calls, dispersal, ldpc, vectors};
 use s3frame::{FrameState, Group, Modulation, Plan, Rate, Refusal, SlotSettings, SLOT_OCTETS};
 
 /// Codes a slot both ways and compares; gives the slot and the state after it.
@@ -18,25 +18,26 @@ fn coded(random: &mut Random, state: FrameState, table: &[u16], source: &[u8]) -
     (ours, after)
 }
 
-/// Reads a slot both ways and compares; gives the number, the octets and the state after it.
+/// Reads a slot both ways and compares; gives number and stuff bits, the octets and the state after it.
 fn read(
     random: &mut Random,
     state: FrameState,
     table: &[u16],
     slot: &[u8],
     count: usize,
-) -> (u32, Vec<u8>, FrameState) {
+) -> ((u32, u16), Vec<u8>, FrameState) {
     let found = random.octets(count);
     let [mut ours, mut theirs] = [found.clone(), found.clone()];
-    let mut next = place(&state);
+    let (mut report, mut next) = ([0], place(&state));
     let groups = groups(state.plan());
-    let expected = calls::read_slot(&twin(&groups, &state), table, slot, &mut theirs, &mut next);
+    let expected = calls::read_slot(&twin(&groups, &state), table, slot, &mut theirs, &mut report, &mut next);
     let read = state.read_slot(table, slot, &mut ours);
-    assert_eq!(number(read.answer), expected.into());
+    let told = number_and_stuff(read.answer);
+    assert_eq!(told, (expected.into(), report[0]));
     assert_eq!(place(&read.state), next);
     assert!(ours == theirs, "what was read differs");
     assert!(expected == 0 || ours == found, "a refused slot writes nothing");
-    (expected.into(), ours, read.state)
+    (told, ours, read.state)
 }
 
 /// Checks a slot's parity both ways and compares.
@@ -46,18 +47,21 @@ fn checked(rate: Rate, table: &[u16], slot: &[u8]) -> u32 {
     ours
 }
 
-/// Codes one slot, reads it whole and damaged in each way, and gives how many slot calls that made.
+/// Codes one slot, reads it whole, with other stuff bits and damaged in each way, and gives how many slot calls that made.
 fn slot_of(random: &mut Random, modulation: Modulation, rate: Rate) -> usize {
     let state = random.state(modulation, rate);
     let (table, source) = (random.table(rate), random.source(rate.source_octets()));
+    let (code, stuff) = (code(rate, &table), random.stuff());
 
     let (slot, after) = coded(random, state, &table, &source);
-    assert_eq!(checked(rate, &table, &slot), 0);
-    assert_eq!(read(random, state, &table, &slot, source.len()), (0, source.clone(), after));
-    for damage in [8, 9, 10] {
-        let slot = random.damaged(&code(rate, &table), &slot, damage);
-        let (number, _, moved) = read(random, state, &table, &slot, source.len());
-        assert_eq!((number, moved), (damage.into(), after), "the state after damage is that after a good slot");
+    for (slot, stuff) in [(stuffed(&code, &slot, stuff), stuff), (slot.clone(), 63)] {
+        assert_eq!(checked(rate, &table, &slot), 0);
+        assert_eq!(read(random, state, &table, &slot, source.len()), ((0, stuff.into()), source.clone(), after));
+    }
+    for damage in [8, 9] {
+        let slot = random.damaged(&code, &slot, damage);
+        let (told, _, moved) = read(random, state, &table, &slot, source.len());
+        assert_eq!((told, moved), ((damage.into(), 255), after), "the state after damage is that after a good slot");
         assert_eq!(checked(rate, &table, &slot), if damage == 8 { 8 } else { 0 });
     }
     5
@@ -90,12 +94,13 @@ fn damaged_parts_of(random: &mut Random, rate: Rate) {
         let source = random.source(rate.source_octets());
         let (slot, after) = coded(random, state, &table, &source);
         let bch = source.len();
-        for (octet, number_anew) in [(0, 9), (bch, 9), (bch + 24, 10), (SLOT_OCTETS - 1, 0)] {
+        let parts = [(0, (9, 255)), (bch, (9, 255)), (bch + 24, (0, 31)), (SLOT_OCTETS - 1, (0, 63))];
+        for (octet, told_anew) in parts {
             let as_sent = vectors::damaged(&slot, octet);
             let anew = vectors::with_parity_anew(&code, &as_sent);
-            for (slot, expected, check) in [(as_sent, 8, 8), (anew, number_anew, 0)] {
-                let (number, _, moved) = read(random, state, &table, &slot, bch);
-                assert_eq!((number, moved), (expected, after));
+            for (slot, expected, check) in [(as_sent, (8, 255), 8), (anew, told_anew, 0)] {
+                let (told, _, moved) = read(random, state, &table, &slot, bch);
+                assert_eq!((told, moved), (expected, after));
                 assert_eq!(checked(rate, &table, &slot), check);
             }
         }
@@ -111,8 +116,48 @@ fn each_part_damaged() {
     }
 }
 
-/// The second implementation's frame, and the one made slot by slot, dummies passed; then both are read slot by slot, some
-/// slots damaged. Gives how many slot calls that made.
+/// A slot with six ones for its stuff bits, all other bits before the parity as they are, dispersal taken off, and the parity
+/// made anew.
+fn with_ones(state: &FrameState, code: &Code, slot: &[u8]) -> Vec<u8> {
+    let disperse = |bits: &mut [u8]| dispersal::disperse(WIDTH, state.settings().mask, state.register(), bits);
+    let mut bits = bits_of(slot);
+    bits.truncate(code.dispersed_bits());
+    disperse(&mut bits);
+    let stuff = bits.len() - 6;
+    bits[stuff..].fill(1);
+    disperse(&mut bits);
+    bits.extend(ldpc::parity(&code.table, &bits));
+    octets_of(&bits)
+}
+
+/// Reads a slot with each number of stuff bits, and codes what was read.
+fn stuff_numbers_of(random: &mut Random, modulation: Modulation, rate: Rate) {
+    let (state, table) = (random.state(modulation, rate), random.table(rate));
+    let (code, source) = (code(rate, &table), random.source(rate.source_octets()));
+    let (sent, after) = coded(random, state, &table, &source);
+    for stuff in 0..64 {
+        let slot = stuffed(&code, &sent, stuff);
+        let (told, back, moved) = read(random, state, &table, &slot, source.len());
+        assert_eq!((told, moved), ((0, stuff.into()), after));
+        assert!(back == source, "header and data come back, whatever the stuff bits");
+        let (again, _) = coded(random, state, &table, &back);
+        assert!(again == with_ones(&state, &code, &slot), "ones are coded, and their parity");
+        assert_eq!(again == slot, stuff == 63);
+    }
+}
+
+#[test]
+fn every_number_of_stuff_bits() {
+    let mut random = Random::new(5);
+    for _ in 0..trials(1) {
+        for (rate, modulation) in Rate::ALL.into_iter().zip(Modulation::ALL.into_iter().cycle()) {
+            stuff_numbers_of(&mut random, modulation, rate);
+        }
+    }
+}
+
+/// The second implementation's frame, and the one made slot by slot, dummies passed; then both are read slot by slot, with any
+/// stuff bits and some slots damaged. Gives how many slot calls that made.
 fn frame_of(random: &mut Random) -> usize {
     let (plan, settings) = (random.plan(), random.slot_settings());
     let tables = random.tables(&plan);
@@ -137,14 +182,11 @@ fn frame_of(random: &mut Random) -> usize {
         let mut slot = vec![0; SLOT_OCTETS];
         coder = coder.code_slot(table, &source[from..to], &mut slot).expect("a slot that is coded");
         assert!(slot == part, "slot {} differs from the whole frame's", coder.slot() - 1);
-        let damage = random.pick(&[0, 0, 0, 0, 8, 9, 10]);
-        if damage != 0 {
-            slot = random.damaged(&code(place.rate, table), &slot, damage);
-        }
+        let (slot, (expected, stuff)) = random.received(&code(place.rate, table), &slot);
         let mut back = vec![0; to - from];
         let read = reader.read_slot(table, &slot, &mut back);
-        assert_eq!(number(read.answer), damage.into());
-        assert!(damage != 0 || back == source[from..to]);
+        assert_eq!(number_and_stuff(read.answer), (expected.into(), stuff.into()));
+        assert!(expected != 0 || back == source[from..to]);
         (reader, from, calls) = (read.state, to, calls + 2);
         assert_eq!(reader, coder);
     }

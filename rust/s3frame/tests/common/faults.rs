@@ -32,6 +32,12 @@ pub fn plan_choices(behind: &[u8], times: usize) -> Vec<Faults> {
     choices(&[&[1, 13, 14, 15], behind].concat(), times)
 }
 
+/// A number of a call alone, and in a pair with each of the call's others.
+pub fn pairs_with(number: u8, numbers: &[u8]) -> Vec<Faults> {
+    let pair = |&other: &u8| Faults(numbers.iter().copied().filter(|one| [number, other].contains(one)).collect());
+    numbers.iter().map(pair).collect()
+}
+
 /// 1, 13, 14 and 15: a plan that breaks the rules asked for, made of one that keeps them all.
 pub fn break_plan(random: &mut Random, faults: &Faults, plan: &mut Vec<u8>) {
     break_rules(random, faults, plan);

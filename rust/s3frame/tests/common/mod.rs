@@ -8,7 +8,9 @@ pub mod tlv;
 use reference::calls::State;
 use reference::ldpc::{GROUP, ROWS};
 use reference::slot::{bits_of, octets_of, Code};
-use s3frame::{FrameState, Group, Modulation, Plan, Rate, SlotSettings, TmccSettings, PACKET_OCTETS};
+use reference::vectors::with_parity_anew;
+use s3frame::{FrameState, Group, Modulation, Plan, Rate, Refusal, SlotSettings, StuffBits};
+use s3frame::{TmccSettings, PACKET_OCTETS, SLOT_OCTETS};
 use std::collections::BTreeMap;
 
 fn setting(name: &str, usual: u64) -> u64 {
@@ -178,15 +180,13 @@ impl Random {
         FrameState::at(plan, settings, self.pick(&slots), register)
     }
 
-    /// A slot damaged so that the check of this number fails: 8 by a bit that is the other one, 9 and 10 by such a bit
-    /// before the stuff bits or in them and the parity made anew.
+    /// A slot damaged so that the check of this number fails: 8 by a bit that is the other one, 9 by such a bit before the
+    /// stuff bits and the parity made anew.
     pub fn damaged(&mut self, code: &Code, coded: &[u8], number: u8) -> Vec<u8> {
         let mut bits = bits_of(coded);
-        let stuff = code.dispersed_bits() - 6;
         let bit = match number {
             8 => self.below(bits.len()),
-            9 => self.below(stuff),
-            10 => stuff + self.below(6),
+            9 => self.below(code.dispersed_bits() - 6),
             _ => panic!("no check has the number {number}"),
         };
         bits[bit] ^= 1;
@@ -194,9 +194,55 @@ impl Random {
         if number == 8 {
             slot
         } else {
-            reference::vectors::with_parity_anew(code, &slot)
+            with_parity_anew(code, &slot)
         }
     }
+
+    /// Stuff bits as a number, now and then those that are coded.
+    pub fn stuff(&mut self) -> u8 {
+        match self.below(4) {
+            0 => 63,
+            _ => self.below(64) as u8,
+        }
+    }
+
+    /// A coded slot as it is received, with any stuff bits and now and then damaged; and the number and the stuff bits that
+    /// reading it must give.
+    pub fn received(&mut self, code: &Code, coded: &[u8]) -> (Vec<u8>, (u8, u8)) {
+        let stuff = self.stuff();
+        let slot = stuffed(code, coded, stuff);
+        match self.pick(&[0, 0, 0, 0, 0, 0, 8, 9]) {
+            0 => (slot, (0, stuff)),
+            number => (self.damaged(code, &slot, number), (number, 255)),
+        }
+    }
+
+    /// Makes a coded frame one that is received so, dummies too; gives the answer and the stuff bits of each slot.
+    pub fn receive_frame(&mut self, plan: &Plan, tables: &[Vec<u16>], frame: &mut [u8]) -> Vec<(u8, u8)> {
+        let codes: Vec<Code> = plan.groups().zip(tables).map(|(group, table)| code(group.rate, table)).collect();
+        let places = reference::plan::places(&groups(plan));
+        let slot = |(place, part): (&reference::plan::Place, &mut [u8])| {
+            let (slot, told) = self.received(&codes[place.group], part);
+            part.copy_from_slice(&slot);
+            if place.data {
+                told
+            } else {
+                (2, 255)
+            }
+        };
+        places.iter().zip(frame.chunks_mut(SLOT_OCTETS)).map(slot).collect()
+    }
+}
+
+/// A coded slot with these stuff bits in place of its ones, and its parity made anew. Dispersal adds bit by bit, so that a bit
+/// that is the other one in the slot as sent is so too where dispersal is taken off.
+pub fn stuffed(code: &Code, coded: &[u8], stuff: u8) -> Vec<u8> {
+    let mut bits = bits_of(coded);
+    let first = code.dispersed_bits() - 6;
+    for (place, bit) in bits[first..first + 6].iter_mut().enumerate() {
+        *bit ^= 1 - (stuff >> (5 - place) & 1);
+    }
+    with_parity_anew(code, &octets_of(&bits))
 }
 
 /// A row as it is lent: its count, then its addresses.
@@ -233,8 +279,13 @@ pub fn code(rate: Rate, table: &[u16]) -> Code {
 }
 
 /// The number of a result.
-pub fn number<T>(answer: Result<T, s3frame::Refusal>) -> u32 {
+pub fn number<T>(answer: Result<T, Refusal>) -> u32 {
     answer.err().map_or(0, |refusal| refusal.number())
+}
+
+/// The number of a slot that was read or refused, and its stuff bits as the calls report them.
+pub fn number_and_stuff(answer: Result<StuffBits, Refusal>) -> (u32, u16) {
+    (number(answer), answer.map_or(255, |stuff| stuff.number().into()))
 }
 
 /// How often each kind of case occurred.

@@ -2,12 +2,13 @@
 use crate::calls;
 use crate::common::faults::{self, plan_choices, Faults};
 use crate::common::{trials, Random};
-use crate::slots::{break_one_length, Reading};
+use crate::slots::{break_one_length, Areas, Reading, NUMBERS, READING};
 use crate::states::Lent;
+use crate::ways::{alone_and_in_pairs, cut, with_choices, Way};
 use crate::{compared, kept};
 use reference::plan::of_octets;
 use reference::{packets, slot};
-use s3frame::HEADER_OCTETS;
+use s3frame::{Rate, HEADER_OCTETS};
 
 /// Codes packets with the faults asked for. 4 stands twice in the order: among the faults it is that of the packets, before
 /// 7; that of the other areas stands behind 7.
@@ -52,43 +53,41 @@ fn coding_packets() {
 }
 
 /// Header and packets of a source.
-fn carried(rate: usize, source: &[u8]) -> (Vec<u8>, Vec<u8>) {
+fn carried(rate: Rate, source: &[u8]) -> Vec<Vec<u8>> {
     let (header, data) = source.split_at(HEADER_OCTETS);
     let mut octets = vec![0; data.len() / 187 * 188];
-    assert_eq!(packets::unpack(rate, data, &mut octets), 0);
-    (header.to_vec(), octets)
+    assert_eq!(packets::unpack(rate as usize, data, &mut octets), 0);
+    vec![header.to_vec(), octets]
 }
 
-/// Reads packets with the faults asked for; 8, 9 and 10 move on, and write nothing else.
-fn read(random: &mut Random, faults: &Faults) {
-    let Reading { mut lent, rate, table, mut coded, source, after } = Reading::new(random, faults);
-    let (mut header, mut packets) = (random.octets(HEADER_OCTETS), random.octets(rate.packet_octets()));
-    if faults.has(4) {
-        break_one_length(random, &mut [&mut header, &mut packets, &mut coded], &mut lent.next);
-    }
-    lent.break_state(random, faults, true);
+/// The ways to 4 beside those of every reading call, whose first area is the header here.
+const PACKETS: &[Way<Reading>] = &[
+    Way { of: "packets", break_it: |lent| lent.found.read[1].clear() },
+    Way { of: "packets", break_it: |lent| cut(&mut lent.found.read[1]) },
+    Way { of: "packets", break_it: |lent| lent.found.read[1].push(0) },
+];
+
+fn read(random: &mut Random, faults: &Faults, lengths: &[&Way<Reading>]) {
+    let reading = Reading::new(random, faults, lengths, carried);
+    let Reading { lent, table, coded, found, .. } = &reading;
     let plan = of_octets(&lent.plan);
-    let found = ((header, packets), lent.next.clone());
     let left = compared(
         faults.first(),
-        &found,
-        |((header, packets), next)| calls::read_packets(lent.at(), &table, &coded, header, packets, next),
-        |((header, packets), next)| {
-            reference::calls::read_packets(&lent.state(&plan), &table, &coded, header, packets, next)
+        found,
+        |Areas { read, report, next }| {
+            let (header, packets) = read.split_at_mut(1);
+            calls::read_packets(lent.at(), table, coded, &mut header[0], &mut packets[0], report, next)
+        },
+        |Areas { read, report, next }| {
+            let ((header, packets), state) = (read.split_at_mut(1), lent.state(&plan));
+            reference::calls::read_packets(&state, table, coded, &mut header[0], &mut packets[0], report, next)
         },
     );
-    let expected = match faults.first() {
-        0 => (carried(rate as usize, &source), after),
-        8..=10 => (found.0, after),
-        _ => found,
-    };
-    assert!(left == expected);
+    assert!(left == reading.left(faults.first()));
 }
 
 #[test]
 fn reading_packets() {
-    let mut random = Random::new(65);
-    for faults in plan_choices(&[6, 3, 2, 4, 5, 8, 9, 10], trials(1)) {
-        read(&mut random, &faults);
-    }
+    let lengths = alone_and_in_pairs(READING.iter().chain(PACKETS));
+    with_choices(&mut Random::new(65), &NUMBERS, trials(1), &lengths, read);
 }

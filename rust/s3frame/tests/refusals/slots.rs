@@ -1,8 +1,9 @@
 //! One slot of header and data, and the lone parity check.
 use crate::calls;
 use crate::common::faults::{self, choices, plan_choices, Faults};
-use crate::common::{code, trials, Random};
+use crate::common::{code, stuffed, trials, Random};
 use crate::states::Lent;
+use crate::ways::{alone_and_in_pairs, cut, with_choices, Way};
 use crate::{compared, kept};
 use reference::plan::of_octets;
 use reference::slot;
@@ -40,65 +41,107 @@ fn coding_a_slot() {
     }
 }
 
-/// A slot with the faults asked for: 9 and 10 keep the parity, and 8 comes last and breaks it.
+/// A slot with the faults asked for: 9 keeps the parity, and 8 comes last and breaks it.
 fn received(random: &mut Random, faults: &Faults, code: &slot::Code, sound: &[u8]) -> Vec<u8> {
-    let asked = [10, 9, 8].into_iter().filter(|&number| faults.has(number));
+    let asked = [9, 8].into_iter().filter(|&number| faults.has(number));
     asked.fold(sound.to_vec(), |slot, number| random.damaged(code, &slot, number))
 }
 
-/// What a reading call is lent to read, what it must read there, and what it must leave in `next`.
+/// What a reading call writes: what it reads, in one area or two, its report and the state after it.
+#[derive(Clone, PartialEq)]
+pub struct Areas {
+    pub read: Vec<Vec<u8>>,
+    pub report: Vec<u16>,
+    pub next: Vec<u32>,
+}
+
+/// What a reading call is lent, the areas as found among it, and what it must leave in them where it accepts.
 pub struct Reading {
     pub lent: Lent,
-    pub rate: Rate,
     pub table: Vec<u16>,
     pub coded: Vec<u8>,
-    pub source: Vec<u8>,
-    pub after: Vec<u32>,
+    pub found: Areas,
+    accepted: Areas,
 }
 
 impl Reading {
-    /// A slot damaged as asked, and its table.
-    pub fn new(random: &mut Random, faults: &Faults) -> Reading {
+    /// A slot with any stuff bits, and all that is lent with it, with the faults asked for; `areas` says what is read of a
+    /// source at a rate.
+    pub fn new(
+        random: &mut Random,
+        faults: &Faults,
+        lengths: &[&Way<Reading>],
+        areas: fn(Rate, &[u8]) -> Vec<Vec<u8>>,
+    ) -> Reading {
         let (lent, rate) = Lent::new(random, true);
         let mut table = random.table(rate);
-        let code = code(rate, &table);
+        let (code, stuff) = (code(rate, &table), random.stuff());
         let source = random.source(code.message_bits() / 8);
         let (sound, register) = slot::code_slot(&code, lent.mask, lent.register, &source);
-        let coded = received(random, faults, &code, &sound);
-        let after = vec![lent.slot + 1, register];
+        let coded = received(random, faults, &code, &stuffed(&code, &sound, stuff));
         if faults.has(5) {
             faults::break_tables(random, &[rate], &mut table);
         }
-        Reading { lent, rate, table, coded, source, after }
+        let read = areas(rate, &source);
+        let found = read.iter().map(|area| random.octets(area.len())).collect();
+        let found = Areas { read: found, report: random.numbers(1), next: lent.next.clone() };
+        let accepted = Areas { read, report: vec![stuff.into()], next: vec![lent.slot + 1, register] };
+        let mut reading = Reading { lent, table, coded, found, accepted };
+        lengths.iter().for_each(|way| (way.break_it)(&mut reading));
+        reading.lent.break_state(random, faults, true);
+        reading
     }
+
+    /// What the call must leave where it answers this number. 8 and 9 move on, and every refusal writes a report of its
+    /// length.
+    pub fn left(&self, number: u8) -> Areas {
+        let Areas { read, report, next } = self.found.clone();
+        let report = if report.len() == 1 { vec![255] } else { report };
+        match number {
+            0 => self.accepted.clone(),
+            8 | 9 => Areas { read, report, next: self.accepted.next.clone() },
+            _ => Areas { read, report, next },
+        }
+    }
+}
+
+/// The numbers of a reading call in their order.
+pub const NUMBERS: [u8; 11] = [1, 13, 14, 15, 6, 3, 2, 4, 5, 8, 9];
+
+/// The ways to 4 in a reading call.
+pub const READING: &[Way<Reading>] = &[
+    Way { of: "coded", break_it: |lent| lent.coded.clear() },
+    Way { of: "coded", break_it: |lent| cut(&mut lent.coded) },
+    Way { of: "coded", break_it: |lent| lent.coded.push(0) },
+    Way { of: "first area", break_it: |lent| lent.found.read[0].clear() },
+    Way { of: "first area", break_it: |lent| cut(&mut lent.found.read[0]) },
+    Way { of: "first area", break_it: |lent| lent.found.read[0].push(0) },
+    Way { of: "report", break_it: |lent| lent.found.report.clear() },
+    Way { of: "report", break_it: |lent| lent.found.report.push(8) },
+    Way { of: "report", break_it: |lent| lent.found.report.extend([8, 9]) },
+    Way { of: "next", break_it: |lent| lent.found.next.clear() },
+    Way { of: "next", break_it: |lent| cut(&mut lent.found.next) },
+    Way { of: "next", break_it: |lent| lent.found.next.push(7) },
+];
+
+fn read(random: &mut Random, faults: &Faults, lengths: &[&Way<Reading>]) {
+    let reading = Reading::new(random, faults, lengths, |_, source| vec![source.to_vec()]);
+    let Reading { lent, table, coded, found, .. } = &reading;
+    let plan = of_octets(&lent.plan);
+    let left = compared(
+        faults.first(),
+        found,
+        |Areas { read, report, next }| calls::read_slot(lent.at(), table, coded, &mut read[0], report, next),
+        |Areas { read, report, next }| {
+            reference::calls::read_slot(&lent.state(&plan), table, coded, &mut read[0], report, next)
+        },
+    );
+    assert!(left == reading.left(faults.first()));
 }
 
 #[test]
 fn reading_a_slot() {
-    let mut random = Random::new(54);
-    for faults in plan_choices(&[6, 3, 2, 4, 5, 8, 9, 10], trials(1)) {
-        let Reading { mut lent, table, mut coded, source, after, .. } = Reading::new(&mut random, &faults);
-        let mut area = random.octets(source.len());
-        if faults.has(4) {
-            break_one_length(&mut random, &mut [&mut area, &mut coded], &mut lent.next);
-        }
-        lent.break_state(&mut random, &faults, true);
-        let plan = of_octets(&lent.plan);
-        let found = (area, lent.next.clone());
-        let left = compared(
-            faults.first(),
-            &found,
-            |(area, next)| calls::read_slot(lent.at(), &table, &coded, area, next),
-            |(area, next)| reference::calls::read_slot(&lent.state(&plan), &table, &coded, area, next),
-        );
-        // 8, 9 and 10 move on, and write nothing else.
-        let expected = match faults.first() {
-            0 => (source, after),
-            8..=10 => (found.0, after),
-            _ => found,
-        };
-        assert!(left == expected);
-    }
+    with_choices(&mut Random::new(54), &NUMBERS, trials(1), &alone_and_in_pairs(READING), read);
 }
 
 #[test]
