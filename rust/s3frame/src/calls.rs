@@ -372,6 +372,7 @@ pub fn code_frame(plan: &[u8], mask: u32, start: u32, tables: &[u16], source: &[
 }
 
 /// Reads a whole frame. `stuff` holds 255 for a slot whose answer isn't 0. Numbers: 1, 13, 14, 15, 6, 4, 5.
+#[allow(clippy::too_many_arguments)] // those of the call
 pub fn read_frame(
     plan: &[u8],
     mask: u32,

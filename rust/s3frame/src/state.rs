@@ -90,7 +90,7 @@ impl FrameState {
     fn read(self, call: impl FnOnce(At<'_>, &mut [u16], &mut [u32]) -> u32) -> SlotRead {
         let mut report = [0];
         let (answer, state) = self.called(|at, next| call(at, &mut report, next));
-        let stuff = |()| StuffBits::of_number(u8::try_from(report[0]).expect("six bits, or 255"));
+        let stuff = |()| StuffBits::of_number(u8::try_from(report[0]).expect("six bits"));
         SlotRead { answer: answer.map(stuff), state }
     }
 
@@ -112,7 +112,8 @@ impl FrameState {
     /// Reads the next slot; the lengths are those of coding it.
     ///
     /// Refused: as [`code_slot`](FrameState::code_slot) is, then [`Refusal::Parity`], [`Refusal::Bch`]; `source` is then as it
-    /// was. Coding what was read gives the same slot exactly where its stuff bits are [`StuffBits::ONES`].
+    /// was. Coding what was read gives the same slot only where its stuff bits are [`StuffBits::ONES`]; for others it gives the
+    /// slot with ones there and its parity made anew.
     pub fn read_slot(self, table: &[u16], coded: &[u8], source: &mut [u8]) -> SlotRead {
         self.read(|at, report, next| calls::read_slot(at, table, coded, source, report, next))
     }

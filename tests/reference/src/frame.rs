@@ -54,6 +54,7 @@ pub fn code(plan: &[Group], mask: u32, start: u32, tables: &[u16], source: &[u8]
 /// Reads the data slots into the source's places, and writes an answer and the stuff bits for each slot, 255 where the answer
 /// isn't 0. The places of a slot that fails a check stay untouched; the register goes on after it all the same, so that the
 /// slots behind it can be read.
+#[allow(clippy::too_many_arguments)] // those of the call
 pub fn read(
     plan: &[Group],
     mask: u32,
