@@ -17,6 +17,7 @@ SETTINGS = ["--plan", "plan", "--mask", MASK, "--start", START]
 WORKED = "4 7 115\n2 3 5\n"  # 92 slots of 23 packets and 2 of 15
 EIGHT = "5 11 20\n5 7 10\n4 7 30\n3 5 20\n3 1 15\n2 3 10\n1 9 10\n1 1 5\n"
 FEW = "1 1 120\n"  # 24 slots of 10 packets
+ROWS = {1: 41, 3: 61, 7: 93}  # of 374 bits before the parity, by rate
 passed = failed = 0
 
 
@@ -96,10 +97,32 @@ def frames_of(plan, packets):
     return frames
 
 
+def put_stuff(frames, frame, slot, rate, stuff):
+    """Puts other stuff bits, as a number, in place of the six ones of a coded slot, and makes its parity anew. They are the
+    first bits of an octet, at the end of the last row; one that is turned as sent is turned below the dispersal too.
+    """
+    first = FRAME * (frame - 1) + SLOT * (slot - 1)
+    octets = frames[first:first + SLOT]
+    octets[374 * ROWS[rate] // 8] ^= (63 ^ stuff) << 2
+    made = subprocess.run([REFERENCE, "parity", str(rate)], input=octets, capture_output=True, check=True)
+    frames[first:first + SLOT] = made.stdout
+
+
 def counts(line):
     """A report line's names and numbers."""
     words = line.split(" ")
     return dict(zip(words[::2], map(int, words[1::2])))
+
+
+def joined(slots):
+    """Slots as a line has them: those that follow each other as a run."""
+    runs = []
+    for slot in slots:
+        if runs and runs[-1][-1] + 1 == slot:
+            runs[-1][1:] = [slot]
+        else:
+            runs.append([slot])
+    return ",".join("-".join(map(str, run)) for run in runs)
 
 
 def json_lines(name):
@@ -107,8 +130,9 @@ def json_lines(name):
     document = json.loads(got(name))
     told = []
     for frame in document["frames"]:
-        slots = frame.pop("refused")
+        slots, stuff = frame.pop("refused"), frame.pop("stuff")
         told += [f"frame {frame['frame']} slot {slot['slot']} refused {slot['number']} {slot['word']} lost {slot['lost']}"
                  for slot in slots]
+        told += [f"frame {frame['frame']} stuff {bits['stuff']} slots {joined(bits['slots'])}" for bits in stuff]
         told.append(" ".join(f"{name} {value}" for name, value in frame.items()))
     return told + [" ".join(f"{name} {value}" for name, value in document["total"].items())]

@@ -1,31 +1,24 @@
-"""Slots that are refused, in the report, in JSON and in the picture."""
+"""Slots that are refused, and those with other stuff bits, in the report, in JSON and in the picture."""
 import json
 import resource
-import subprocess
 import xml.etree.ElementTree as xml
 from collections import Counter
 
-from common import (FEW, FRAME, PACKET, REFERENCE, SETTINGS, SLOT, WORKED, check, counts, equal, frames_of, got, json_lines,
-                    limit, put, samples, well)
+from common import (FEW, FRAME, PACKET, SETTINGS, SLOT, WORKED, check, counts, equal, frames_of, got, json_lines, limit, put,
+                    put_stuff, samples, well)
 
 SVG = "{http://www.w3.org/2000/svg}"
 REPORTS = ["--json", "out.json", "--svg", "out.svg"]
 
 
-def with_wrong_stuff(slot):
-    """A slot of rate 7 with a wrong stuff bit, the last of the 93 rows of 374 bits before the parity, and right parity."""
-    octets = bytearray(slot)
-    octets[(93 * 374 - 1) // 8] ^= 4
-    return subprocess.run([REFERENCE, "parity", "7"], input=octets, capture_output=True, check=True).stdout
-
-
 def damaged(frames):
-    """Frame 1: a wrong parity bit in slot 2, a wrong stuff bit in slot 5. Frame 2: slots 3 and 4 changed places, so that
-    their parity is right and their BCH bits are not.
+    """Frame 1: other stuff bits in slots 2 and 5 to 9, and in slot 2 a wrong parity bit too. Frame 2: slots 3 and 4 changed
+    places, so that their parity is right and their BCH bits are not.
     """
     octets = bytearray(frames)
+    for slot, stuff in ((2, 0), (5, 62), (6, 31), (7, 62), (8, 62), (9, 62)):
+        put_stuff(octets, 1, slot, 7, stuff)
     octets[2 * SLOT - 1] ^= 1
-    octets[4 * SLOT:5 * SLOT] = with_wrong_stuff(octets[4 * SLOT:5 * SLOT])
     third, fourth, fifth = (FRAME + k * SLOT for k in (2, 3, 4))
     octets[third:fourth], octets[fourth:fifth] = octets[fourth:fifth], octets[third:fourth]
     return bytes(octets)
@@ -54,17 +47,18 @@ def report():
     put("damaged", damaged(frames_of(WORKED, packets)))
     lines = well("monitor", "monitor", *SETTINGS, "damaged", "-o", "back", *REPORTS, status=1).splitlines()
     slot, in_frame = 23 * PACKET, 2146 * PACKET
-    want = packets[:slot] + packets[2 * slot:4 * slot] + packets[5 * slot:in_frame + 2 * slot] + packets[in_frame + 4 * slot:]
+    want = packets[:slot] + packets[2 * slot:in_frame + 2 * slot] + packets[in_frame + 4 * slot:]
     equal("the packets of accepted slots alone come back", got("back"), want)
-    equal("the refused slots have lines", [line for line in lines if "refused" in line],
-          ["frame 1 slot 2 refused 8 parity lost 23", "frame 1 slot 5 refused 10 stuff lost 23",
-           "frame 2 slot 3 refused 9 BCH lost 23", "frame 2 slot 4 refused 9 BCH lost 23"])
-    equal("all frames", lines[-1],
-          "frames 2 accepted 184 dummy 52 parity 1 BCH 2 stuff 1 planned 4292 written 4200 lost 92 null 0")
+    equal("the report", lines, [
+        "frame 1 slot 2 refused 8 parity lost 23", "frame 1 stuff 31 slots 6", "frame 1 stuff 62 slots 5,7-9",
+        "frame 1 accepted 93 dummy 26 parity 1 BCH 0 other_stuff 5 planned 2146 written 2123 lost 23 null 0",
+        "frame 2 slot 3 refused 9 BCH lost 23", "frame 2 slot 4 refused 9 BCH lost 23",
+        "frame 2 accepted 92 dummy 26 parity 0 BCH 2 other_stuff 0 planned 2146 written 2100 lost 46 null 0",
+        "frames 2 accepted 185 dummy 52 parity 1 BCH 2 other_stuff 5 planned 4292 written 4223 lost 69 null 0"])
     same_in_json(lines)
     texts, found = cells()
-    equal("cells of the picture", found, Counter({"accepted": 184, "dummy": 52, "refused 8 parity": 1, "refused 9 BCH": 2,
-                                                  "refused 10 stuff": 1}))
+    equal("cells of the picture", found, Counter({"accepted": 180, "dummy": 52, "refused 8 parity": 1, "refused 9 BCH": 2,
+                                                  "accepted, other stuff bits": 5}))
     check(f"the axes are named: {texts}", {"slot", "frame", "120", "1", "2"} <= set(texts))
 
 

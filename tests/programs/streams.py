@@ -32,7 +32,7 @@ def there_and_back(plan, data_slots, in_frame, packets):
     lines = well("monitor", "monitor", *SETTINGS, "frames", "-o", "back").splitlines()
     equal("the packets come back, null packets behind them", got("back"), packets + NULL * nulls)
     equal("a line for each frame and one for all", len(lines), number + 1)
-    frame = {"accepted": data_slots, "dummy": 120 - data_slots, "parity": 0, "BCH": 0, "stuff": 0,
+    frame = {"accepted": data_slots, "dummy": 120 - data_slots, "parity": 0, "BCH": 0, "other_stuff": 0,
              "planned": in_frame, "written": in_frame, "lost": 0}
     for k, text in enumerate(lines[:-1]):
         wanted = {"frame": k + 1, **frame, "null": nulls if k == number - 1 else 0}

@@ -104,7 +104,7 @@ def there_and_back(plan, slots, octets, packets):
     equal("the packets come back without empty ones", got("back"), b"".join(want))
     equal("a line for each frame and one for all", len(lines), frames + 1)
     equal("the line of all", lines[-1], f"frames {frames} accepted {frames * slots} dummy {frames * (120 - slots)} "
-          f"parity 0 BCH 0 stuff 0 packets {len(want)} octets {sum(map(len, want))} lost 0 unfinished 0")
+          f"parity 0 BCH 0 other_stuff 0 packets {len(want)} octets {sum(map(len, want))} lost 0 unfinished 0")
 
 
 def with_lost_slots(packets, frames, lost):
@@ -122,7 +122,7 @@ def with_lost_slots(packets, frames, lost):
     for frame in range(count):
         told = [line for line in lines if line.startswith(f"frame {frame + 1} accepted ")]
         gone = sum(slot // SLOTS == frame for slot in lost)
-        equal("a frame's line", told, [f"frame {frame + 1} accepted {SLOTS - gone} dummy 96 parity {gone} BCH 0 stuff 0 "
+        equal("a frame's line", told, [f"frame {frame + 1} accepted {SLOTS - gone} dummy 96 parity {gone} BCH 0 other_stuff 0 "
                                        + carried(packets, frame, lost)])
     equal("the lines that JSON makes", json_lines("out.json"), lines)
     equal("cells of refused slots in the picture", cells()[1]["refused 8 parity"], len(lost))

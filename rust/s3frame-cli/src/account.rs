@@ -8,27 +8,36 @@ use crate::picture;
 use crate::progress::Progress;
 use crate::report::Report;
 use crate::rows::{Row, Rows};
+use crate::stuff::StuffSlots;
 use crate::tally::{Answer, Carried, Refused, Tally};
 use crate::words::MonitorWords;
-use s3frame::SLOTS;
+use s3frame::{StuffBits, SLOTS};
 
 /// What was found in one frame.
 pub struct Found<C> {
     pub tally: Tally<C>,
     refused: Vec<Refused>,
+    stuff: Vec<StuffSlots>,
     row: Row,
 }
 
 impl<C: Carried> Found<C> {
     /// Nothing yet.
     pub fn new() -> Found<C> {
-        Found { tally: Tally::default(), refused: Vec::new(), row: [Answer::Dummy; SLOTS] }
+        Found { tally: Tally::default(), refused: Vec::new(), stuff: Vec::new(), row: [Answer::Dummy; SLOTS] }
     }
 
     /// Notes what became of a slot, counted from 0.
     pub fn answered(&mut self, slot: usize, answer: Answer) {
         self.tally.answered(answer);
         self.row[slot] = answer;
+    }
+
+    /// Notes the stuff bits of an accepted slot, counted from 0. Ones, which coding sends, are not worth telling.
+    pub fn accepted(&mut self, slot: usize, stuff: StuffBits) {
+        if stuff != StuffBits::ONES {
+            StuffSlots::add(&mut self.stuff, stuff.number(), slot + 1);
+        }
     }
 
     /// Notes what a refused slot lost.
@@ -63,12 +72,13 @@ impl<C: Carried> Account<C> {
         let (frame, report) = (self.frames, &mut self.report);
         progress.aside(|| {
             found.refused.iter().try_for_each(|refused| report.line(format_args!("frame {frame} {refused}")))?;
+            found.stuff.iter().try_for_each(|stuff| report.line(format_args!("frame {frame} {stuff}")))?;
             report.line(format_args!("frame {frame} {}", found.tally))
         })?;
         if let Some((rows, _)) = &mut self.picture {
             rows.add(&found.row);
         }
-        self.json.as_mut().map_or(Ok(()), |json| json.frame(frame, found.tally, &found.refused))
+        self.json.as_mut().map_or(Ok(()), |json| json.frame(frame, found.tally, &found.refused, &found.stuff))
     }
 
     /// Tells of all frames, and hands back the files that this filled.

@@ -90,8 +90,9 @@ TLV
 pub const JSON_FORM: &str = "\
 JSON
   One document. `plan`, `mask` and `start` are the settings. `frames` is a list: each frame's
-  numbers as in its line, and `refused`, the list of its refused slots. `total` has the numbers
-  of all frames, `left_over` the octets behind the last whole one.";
+  numbers as in its line; `refused`, the list of its refused slots; and `stuff`, the list of other
+  stuff bits than ones, each as `stuff`, their number, and `slots`, the accepted slots that have
+  them. `total` has the numbers of all frames, `left_over` the octets behind the last whole one.";
 
 pub const MASK: &str =
     "The taps of the slots' 25-bit dispersal register: a number with the weight 2^24, in decimal or behind 0x";

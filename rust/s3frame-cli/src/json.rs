@@ -1,6 +1,7 @@
 //! The report for programs: one JSON document, written frame by frame.
 use crate::failure::Failure;
 use crate::outputs::Output;
+use crate::stuff::StuffSlots;
 use crate::tally::{Carried, Refused, Tally};
 use s3frame::FrameState;
 use serde::Serialize;
@@ -20,6 +21,7 @@ struct Frame<'a, C> {
     #[serde(flatten)]
     tally: Tally<C>,
     refused: &'a [Refused],
+    stuff: &'a [StuffSlots],
 }
 
 /// The sums of all frames.
@@ -46,9 +48,15 @@ impl Json {
     }
 
     /// Writes a frame; frames are numbered from 1.
-    pub fn frame<C: Carried>(&mut self, frame: u64, tally: Tally<C>, refused: &[Refused]) -> Result<(), Failure> {
+    pub fn frame<C: Carried>(
+        &mut self,
+        frame: u64,
+        tally: Tally<C>,
+        refused: &[Refused],
+        stuff: &[StuffSlots],
+    ) -> Result<(), Failure> {
         let before = if frame == 1 { "" } else { ",\n" };
-        self.0.write(format!("{before}{}", text(&Frame { frame, tally, refused })).as_bytes())
+        self.0.write(format!("{before}{}", text(&Frame { frame, tally, refused, stuff })).as_bytes())
     }
 
     /// Closes the list, and writes the sums and how many octets were left over.

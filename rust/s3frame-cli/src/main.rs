@@ -22,6 +22,7 @@ mod progress;
 mod report;
 mod rows;
 mod settings;
+mod stuff;
 mod tally;
 mod tlv_code;
 mod tlv_input;

@@ -120,7 +120,7 @@ impl<D: Delivery> Monitor<D> {
         state.read_slot(self.layout.table(place), coded, &mut self.source[..place.rate.source_octets()])
     }
 
-    /// Delivers header and data of a data slot that was accepted, or notes what it lost.
+    /// Delivers header and data of a data slot that was accepted and notes its stuff bits, or notes what it lost.
     fn deliver(
         &mut self,
         slot: usize,
@@ -128,13 +128,15 @@ impl<D: Delivery> Monitor<D> {
         read: SlotRead,
         found: &mut Found<D::Carried>,
     ) -> Result<Answer, Failure> {
-        if let Err(refusal) = read.answer {
-            found.refused(Refused::new(slot + 1, refusal, self.delivery.refused(place)));
-            return Ok(Answer::of(refusal));
+        match read.answer {
+            Ok(stuff) => {
+                let (header, data) = self.source[..place.rate.source_octets()].split_at(HEADER_OCTETS);
+                self.delivery.accepted(place, data)?;
+                self.headers.as_mut().map_or(Ok(()), |headers| headers.write(header))?;
+                found.accepted(slot, stuff);
+            }
+            Err(refusal) => found.refused(Refused::new(slot + 1, refusal, self.delivery.refused(place))),
         }
-        let (header, data) = self.source[..place.rate.source_octets()].split_at(HEADER_OCTETS);
-        self.delivery.accepted(place, data)?;
-        self.headers.as_mut().map_or(Ok(()), |headers| headers.write(header))?;
-        Ok(Answer::Accepted)
+        Ok(Answer::of(read.answer))
     }
 }

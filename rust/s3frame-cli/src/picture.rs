@@ -43,7 +43,7 @@ const ANSWERS: [(Answer, &str, RGBColor); 5] = [
     (Answer::Dummy, "dummy", RGBColor(0xE6, 0xE6, 0xE6)),
     (Answer::Parity, "refused 8 parity", RGBColor(0x2B, 0x0A, 0x3D)),
     (Answer::Bch, "refused 9 BCH", RGBColor(0xC0, 0x3A, 0x0B)),
-    (Answer::Stuff, "refused 10 stuff", RGBColor(0xF0, 0xB4, 0x00)),
+    (Answer::OtherStuff, "accepted, other stuff bits", RGBColor(0xF0, 0xB4, 0x00)),
 ];
 
 /// The colours of a plan's groups, in their order.

@@ -93,11 +93,12 @@ mod tests {
 
     #[test]
     fn rows_join_when_they_run_out() {
-        let rows = rows(201, &[(1, Answer::Stuff), (2, Answer::Parity), (4, Answer::Bch)]);
+        let other = Answer::OtherStuff;
+        let rows = rows(201, &[(1, other), (2, Answer::Parity), (3, other), (4, Answer::Bch), (6, other)]);
         let ends = ends(&rows);
         assert_eq!((rows.each(), ends.len()), (2, 101));
-        assert_eq!(ends[..3], [(1, 2, Answer::Parity), (3, 4, Answer::Bch), (5, 6, Answer::Accepted)]);
-        assert_eq!(ends[100], (201, 201, Answer::Accepted));
+        assert_eq!(ends[..3], [(1, 2, Answer::Parity), (3, 4, Answer::Bch), (5, 6, other)]);
+        assert_eq!([ends[3], ends[100]], [(7, 8, Answer::Accepted), (201, 201, Answer::Accepted)]);
     }
 
     #[test]

@@ -1,27 +1,28 @@
 //! What becomes of the slots of frames and of what they carry, counted.
-use s3frame::Refusal;
+use s3frame::{Refusal, StuffBits};
 use serde::Serialize;
 use std::fmt::{self, Display};
 use std::ops::AddAssign;
 
-/// What became of a slot, the worst last: the sooner a check fails, the worse.
+/// What became of a slot, the worst last: other stuff bits than ones are no refusal, and the sooner a check fails, the worse.
 #[derive(Clone, Copy, Debug, PartialEq, Eq, PartialOrd, Ord)]
 pub enum Answer {
     Dummy,
     Accepted,
-    Stuff,
+    OtherStuff,
     Bch,
     Parity,
 }
 
 impl Answer {
-    /// The answer of a refused slot. Reading a data slot at its place, with areas of their lengths, has no other refusals.
-    pub fn of(refusal: Refusal) -> Answer {
-        match refusal {
-            Refusal::Parity => Answer::Parity,
-            Refusal::Bch => Answer::Bch,
-            Refusal::Stuff => Answer::Stuff,
-            other => unreachable!("a data slot at its place: {other}"),
+    /// The answer of a data slot. Reading it at its place, with areas of their lengths, has no other refusals.
+    pub fn of(read: Result<StuffBits, Refusal>) -> Answer {
+        match read {
+            Ok(StuffBits::ONES) => Answer::Accepted,
+            Ok(_) => Answer::OtherStuff,
+            Err(Refusal::Bch) => Answer::Bch,
+            Err(Refusal::Parity) => Answer::Parity,
+            Err(other) => unreachable!("a data slot at its place: {other}"),
         }
     }
 }
@@ -29,7 +30,7 @@ impl Answer {
 /// What frames carried, counted by the kind of their packets: every number behind its name.
 pub trait Carried: AddAssign + Copy + Default + Display + Serialize {}
 
-/// Slots by answer, and what they carried.
+/// Slots by answer, those accepted that have other stuff bits than ones, and what they carried.
 #[derive(Clone, Copy, Default, Debug, PartialEq, Eq, Serialize)]
 pub struct Tally<C> {
     accepted: u64,
@@ -37,7 +38,7 @@ pub struct Tally<C> {
     parity: u64,
     #[serde(rename = "BCH")]
     bch: u64,
-    stuff: u64,
+    other_stuff: u64,
     #[serde(flatten)]
     pub carried: C,
 }
@@ -62,17 +63,17 @@ impl<C> Tally<C> {
     pub fn answered(&mut self, answer: Answer) {
         let count = match answer {
             Answer::Dummy => &mut self.dummy,
-            Answer::Accepted => &mut self.accepted,
-            Answer::Stuff => &mut self.stuff,
+            Answer::Accepted | Answer::OtherStuff => &mut self.accepted,
             Answer::Bch => &mut self.bch,
             Answer::Parity => &mut self.parity,
         };
         *count += 1;
+        self.other_stuff += u64::from(answer == Answer::OtherStuff);
     }
 
     /// How many slots were refused.
     pub fn refused(&self) -> u64 {
-        self.parity + self.bch + self.stuff
+        self.parity + self.bch
     }
 }
 
@@ -82,7 +83,7 @@ impl<C: Carried> AddAssign for Tally<C> {
         self.dummy += other.dummy;
         self.parity += other.parity;
         self.bch += other.bch;
-        self.stuff += other.stuff;
+        self.other_stuff += other.other_stuff;
         self.carried += other.carried;
     }
 }
@@ -90,8 +91,8 @@ impl<C: Carried> AddAssign for Tally<C> {
 /// Every number behind its name, as `accepted 94 dummy 26 ..`.
 impl<C: Carried> Display for Tally<C> {
     fn fmt(&self, to: &mut fmt::Formatter) -> fmt::Result {
-        let Tally { accepted, dummy, parity, bch, stuff, carried } = self;
-        write!(to, "accepted {accepted} dummy {dummy} parity {parity} BCH {bch} stuff {stuff} {carried}")
+        let Tally { accepted, dummy, parity, bch, other_stuff, carried } = self;
+        write!(to, "accepted {accepted} dummy {dummy} parity {parity} BCH {bch} other_stuff {other_stuff} {carried}")
     }
 }
 
@@ -100,5 +101,19 @@ impl Display for Refused {
     fn fmt(&self, to: &mut fmt::Formatter) -> fmt::Result {
         let Refused { slot, number, word, lost } = self;
         write!(to, "slot {slot} refused {number} {word} lost {lost}")
+    }
+}
+
+#[cfg(test)]
+mod tests {
+    use super::*;
+
+    #[test]
+    fn slots_with_other_stuff_bits_are_accepted() {
+        let mut tally = Tally::default();
+        let answers = [Answer::OtherStuff, Answer::Dummy, Answer::Accepted, Answer::Bch, Answer::OtherStuff];
+        answers.into_iter().for_each(|answer| tally.answered(answer));
+        assert_eq!(tally, Tally { accepted: 3, dummy: 1, parity: 0, bch: 1, other_stuff: 2, carried: () });
+        assert_eq!(tally.refused(), 1);
     }
 }

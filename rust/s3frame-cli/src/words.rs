@@ -132,9 +132,13 @@ pub struct CodeWords {
 /// Reads frames, writes their packets, and reports what became of every slot
 ///
 /// Writes the packets of the slots that are accepted. The report has a line for each slot that is refused, with number and
-/// word: 8 parity, 9 BCH, 10 stuff; a line for each frame with its slots by answer and its packets: those that the plan
-/// carries, those that were written, those of refused slots, each counted for itself, and the null packets among those
-/// written; and such a line for all frames. Frames and slots are counted from 1.
+/// word: 8 parity, 9 BCH; a line for each frame with its slots by answer and its packets: those that the plan carries, those
+/// that were written, those of refused slots, each counted for itself, and the null packets among those written; and such a
+/// line for all frames. Frames and slots are counted from 1.
+///
+/// A slot is accepted whatever its six stuff bits are. Slots where they are not all ones, as some makers send them, count as
+/// accepted, and in other_stuff besides. Lines before the frame's say which bits they were, as `stuff 62 slots 5,7-9`: the
+/// bits as a number from 0 to 63, the first bit the highest, and the slots that have them.
 ///
 /// Of TLV packets these lines have how many were written, their octets, the data octets of refused slots, and the octets so
 /// far of a packet that goes on in the next frame. Behind the last frame such a packet is not written; an empty null packet
