@@ -19,15 +19,22 @@ use Rattle.plan.specs.Records.{stateAt}
 use Rattle.plan.specs.States.{movedOn, soundNumber, stateNumber, passNumber, passed}
 use Rattle.plan.specs.StateLaws.{ready}
 use Rattle.slot.specs.Slots.{slotOf}
-use Rattle.slot.specs.Reading.{sourceOf}
+use Rattle.slot.specs.declared.SlotRead.{SlotRead}
+use Rattle.slot.specs.Reading.{stuffIn, noStuff, stuffWith, sourceOf}
 use Rattle.slot.specs.Calls.{rowsAt, dataNumber, slotNumber, nextState, codeAnswer, codeArea, readNumber, readAnswer, readArea}
 use Rattle.c_boundary.specs.Narrow.{narrowed}
 use Rattle.c_boundary.specs.NarrowLaws.{as-given, both-refuse}
-use Rattle.c_boundary.specs.Calls.{placed, nextNumber, passCall, slotCall, readCall, Coded, Received}
+use Rattle.c_boundary.specs.Calls.{placed, nextNumber, passCall, reported, reportLong, reportNumber, reportLeft, returnedNumber, slotCall, readCall, Coded, Received}
 
 pub next-two : (next : List ℕ) → nextNumber next ≡ 0 → length next ≡ 2
 unfolding nextNumber
 next-two next h = eqb-true (length next) 2 (not-refused (eqb (length next) 2) LENGTH (omega arith) h)
+
+-- one number set in an area of one is all of it
+pub one-set : (xs : List ℕ) (a : ℕ) → length xs ≡ 1 → set xs 0 a ≡ a ∷ []
+one-set [] a h = absurd (omega arith)
+one-set (x ∷ []) a h = refl
+one-set (x ∷ y ∷ xs) a h = absurd (omega arith)
 
 -- two numbers set in an area of two are all of it
 pub two-set : (xs : List ℕ) (a b : ℕ) → length xs ≡ 2 → set (set xs 0 a) 1 b ≡ a ∷ b ∷ []
@@ -42,14 +49,15 @@ module _ (s : FrameState) (n : stateNumber s ≡ 0 → ⊥) (next : List ℕ) wh
   unfolding passCall passNumber
   pass-first = onward (passNumber s) _ _ (onward (stateNumber s) _ _ refl n) n
 
-  module _ (t source coded : List ℕ) where
-    slot-first : slotCall s t source coded next ≡ stateNumber s
-    unfolding slotCall dataNumber
-    slot-first = onward (andThen (dataNumber s) (nextNumber next)) _ _ (onward (dataNumber s) _ _ (onward (stateNumber s) _ _ refl n) n) n
+-- whatever the areas of returned numbers are
+module _ (s : FrameState) (n : stateNumber s ≡ 0 → ⊥) (t source coded : List ℕ) (m : ℕ) where
+  slot-first : slotCall s t source coded m ≡ stateNumber s
+  unfolding slotCall dataNumber
+  slot-first = onward (andThen (dataNumber s) m) _ _ (onward (dataNumber s) _ _ (onward (stateNumber s) _ _ refl n) n) n
 
-    read-first : readCall s t coded source next ≡ stateNumber s
-    unfolding readCall
-    read-first = onward (slotCall s t source coded next) _ _ slot-first n
+  read-first : readCall s t coded source m ≡ stateNumber s
+  unfolding readCall
+  read-first = onward (slotCall s t source coded m) _ _ slot-first n
 
 -- slot numbers past 120 are refused alike
 module _ (p : Plan) (mask start x register : ℕ) (h : 120 < x) where
@@ -92,82 +100,132 @@ moved true s r found = rw (ne-eqb (s .slot + 1) (s .slot) (λ e. omega arith))
 moved false s r found = rw (eq-eqb (s .slot) (s .slot) refl)
 
 -- where nothing before the areas of a slot call refuses it, the number is that of the call behind it
-module _ (s : FrameState) (t source coded next : List ℕ) (h : andThen (dataNumber s) (nextNumber next) ≡ 0) where
-  pub slot-is : slotCall s t source coded next ≡ slotNumber s t source coded
+module _ (s : FrameState) (t source coded : List ℕ) (m : ℕ) (h : andThen (dataNumber s) m ≡ 0) where
+  pub slot-is : slotCall s t source coded m ≡ slotNumber s t source coded
   unfolding slotCall slotNumber
   slot-is = then-next _ _ h ∙ sym (then-next _ _ (then-zero (dataNumber s) _ h .0))
 
-  pub read-is : readCall s t coded source next ≡ readNumber s t coded source
+  pub read-is : readCall s t coded source m ≡ readNumber s t coded source
   unfolding readCall readNumber
   read-is = rw slot-is
 
   -- the place that a call leaves, from the state a that it hands back
-  pub place-left : (a : FrameState) (left : List ℕ)
+  pub place-left : (next : List ℕ) (a : FrameState) (left : List ℕ)
       → a ≡ pick (eqb (slotNumber s t source coded) 0) (nextState s) s
       → left ≡ pick (eqb (a .slot) (s .slot)) next (placed a)
-      → left ≡ pick (eqb (slotCall s t source coded next) 0) (placed (nextState s)) next
-  place-left a left e d =
+      → left ≡ pick (eqb (slotCall s t source coded m) 0) (placed (nextState s)) next
+  place-left next a left e d =
       d
       ∙ ap (λ b. pick (eqb (b .slot) (s .slot)) next (placed b)) e
       ∙ moved (eqb (slotNumber s t source coded) 0) s _ next
       ∙ ap (λ n. pick (eqb n 0) (placed (nextState s)) next) (sym slot-is)
 
-  module _ (a : Answer) (r : ℕ) (area left : List ℕ) (w : r ≡ a .number) (d : left ≡ pick (eqb (a .state .slot) (s .slot)) next (placed (a .state))) where
-    pub code-good : a ≡ codeAnswer s t source coded → area ≡ codeArea s t source coded → Coded s t source coded next r area left
-    unfolding codeAnswer codeArea
-    code-good e f =
-        let n = w ∙ ap (λ b. b .number) e ∙ sym slot-is in
-        record {
-          slot = record { number = n; area = rw slot-is f };
-          place = record { number = n; area = place-left (a .state) left (ap (λ b. b .state) e) d };
-        }
+pub code-good : (s : FrameState) (t source coded next : List ℕ) → andThen (dataNumber s) (nextNumber next) ≡ 0
+    → (a : Answer) (r : ℕ) (area left : List ℕ) → r ≡ a .number → left ≡ pick (eqb (a .state .slot) (s .slot)) next (placed (a .state))
+    → a ≡ codeAnswer s t source coded
+    → area ≡ codeArea s t source coded
+    → Coded s t source coded next r area left
+unfolding codeAnswer codeArea
+code-good s t source coded next h a r area left w d e f =
+    let i = slot-is s t source coded (nextNumber next) h in
+    let n = w ∙ ap (λ b. b .number) e ∙ sym i in
+    record {
+      slot = record { number = n; area = rw i f };
+      place = record { number = n; area = place-left s t source coded (nextNumber next) h next (a .state) left (ap (λ b. b .state) e) d };
+    }
 
-    pub receive-good : a ≡ readAnswer s t coded source → area ≡ readArea s t coded source → Received s t coded source next r area left
-    unfolding readAnswer readArea
-    receive-good e f =
-        record {
-          octets = record { number = w ∙ ap (λ b. b .number) e ∙ sym read-is; area = rw read-is f };
-          place = place-left (a .state) left (ap (λ b. b .state) e) d;
-        }
+pub receive-good : (s : FrameState) (t source coded report next : List ℕ) → andThen (dataNumber s) (returnedNumber report next) ≡ 0
+    → (a : SlotRead) (r : ℕ) (area told left : List ℕ) → r ≡ a .number → told ≡ reportLeft report (a .stuff) → left ≡ pick (eqb (a .state .slot) (s .slot)) next (placed (a .state))
+    → a ≡ readAnswer s t coded source
+    → area ≡ readArea s t coded source
+    → Received s t coded source report next r area told left
+unfolding readAnswer readArea
+receive-good s t source coded report next h a r area told left w x d e f =
+    let m = returnedNumber report next in
+    let i = read-is s t source coded m h in
+    record {
+      octets = record { number = w ∙ ap (λ b. b .number) e ∙ sym i; area = rw i f };
+      report-is = x ∙ ap (λ b. reportLeft report (b .stuff)) e ∙ ap (λ n. reportLeft report (stuffWith n (stuffIn (rowsAt s) (s .mask) (s .register) coded))) (sym i);
+      place = place-left s t source coded m h next (a .state) left (ap (λ b. b .state) e) d;
+    }
 
 -- and where it does
-module _ (s : FrameState) (t source coded next : List ℕ) (r : ℕ) (e : r ≡ andThen (dataNumber s) (nextNumber next)) (n : r ≡ 0 → ⊥) where
-  slot-refused : r ≡ slotCall s t source coded next
+module _ (s : FrameState) (t source coded : List ℕ) (m r : ℕ) (e : r ≡ andThen (dataNumber s) m) (n : r ≡ 0 → ⊥) where
+  slot-refused : r ≡ slotCall s t source coded m
   unfolding slotCall
   slot-refused = e ∙ sym (then-first _ _ (λ z. n (e ∙ z)))
 
-  read-refused : r ≡ readCall s t coded source next
+  read-refused : r ≡ readCall s t coded source m
   unfolding readCall
   read-refused = slot-refused ∙ sym (then-first _ _ (λ z. n (slot-refused ∙ z)))
 
-  pub code-refused : Coded s t source coded next r coded next
-  code-refused = record { slot = refused _ _ _ _ slot-refused n; place = refused _ _ _ _ slot-refused n }
+pub code-refused : (s : FrameState) (t source coded next : List ℕ) (r : ℕ) → r ≡ andThen (dataNumber s) (nextNumber next) → (r ≡ 0 → ⊥)
+    → Coded s t source coded next r coded next
+code-refused s t source coded next r e n =
+    let d = slot-refused s t source coded (nextNumber next) r e n in
+    record { slot = refused _ _ _ _ d n; place = refused _ _ _ _ d n }
 
-  pub receive-refused : Received s t coded source next r source next
-  receive-refused =
-      record { octets = refused _ _ _ _ read-refused n; place = rw (ne-eqb (slotCall s t source coded next) 0 (λ z. n (slot-refused ∙ z))) }
+pub receive-refused : (s : FrameState) (t source coded report next : List ℕ) (r : ℕ) → r ≡ andThen (dataNumber s) (returnedNumber report next) → (r ≡ 0 → ⊥)
+    → (told : List ℕ) → told ≡ reportLeft report noStuff
+    → Received s t coded source report next r source told next
+receive-refused s t source coded report next r e n told x =
+    let m = returnedNumber report next in
+    let d = slot-refused s t source coded m r e n in
+    let c = read-refused s t source coded m r e n in
+    record {
+      octets = refused _ _ _ _ c n;
+      report-is = x ∙ rw (ne-eqb (readCall s t coded source m) 0 (λ z. n (c ∙ z)));
+      place = rw (ne-eqb (slotCall s t source coded m) 0 (λ z. n (d ∙ z)));
+    }
+
+-- a number that is chosen is the first of a list that is chosen
+pick-one : (t : Bool) (a b : ℕ) → pick t (a ∷ []) (b ∷ []) ≡ pick t a b ∷ []
+pick-one true a b = refl
+pick-one false a b = refl
+
+-- the stuff bits of a slot that a call finds at a state
+abbrev stuffAt : List ℕ → FrameState → ℕ
+stuffAt c s = stuffIn (rowsAt s) (s .mask) (s .register) c
+
+-- what a reading reports is that for the slot number as it was handed over
+pub report-given : (f : FrameState → ℕ) (c : List ℕ) → ((s : FrameState) → (stateNumber s ≡ 0 → ⊥) → f s ≡ stateNumber s)
+    → (p : Plan) (mask start slot register : ℕ) (report told : List ℕ)
+    → let a = stateAt p mask start (narrowed slot) register in
+    let b = stateAt p mask start slot register in
+    told ≡ reportLeft report (stuffWith (f a) (stuffAt c a)) → told ≡ reportLeft report (stuffWith (f b) (stuffAt c b))
+report-given f c first p mask start slot register report told e =
+    let a = stateAt p mask start (narrowed slot) register in
+    let b = stateAt p mask start slot register in
+    let same = place-given f (λ s. stuffAt c s ∷ []) first p mask start slot register (noStuff ∷ []) (f a) _ (record { number = refl; area = refl }) .area in
+    e
+    ∙ ap (λ (l : List ℕ). pick (eqb (length report) reportLong) l report)
+    (sym (pick-one (eqb (f a) 0) (stuffAt c a) noStuff) ∙ same ∙ pick-one (eqb (f b) 0) (stuffAt c b) noStuff)
 
 -- slot calls answer for the slot number as it was handed over
 module _ (p : Plan) (mask start slot register : ℕ) (t source coded next : List ℕ) (r : ℕ) (area left : List ℕ) where
   pub code-given : Coded (stateAt p mask start (narrowed slot) register) t source coded next r area left → Coded (stateAt p mask start slot register) t source coded next r area left
   code-given c =
+      let m = nextNumber next in
       record {
         slot =
-            place-given (λ s. slotCall s t source coded next) (λ s. slotOf (rowsAt s) t (s .mask) (s .register) source) (λ s n. slot-first s n next t source coded)
+            place-given (λ s. slotCall s t source coded m) (λ s. slotOf (rowsAt s) t (s .mask) (s .register) source) (λ s n. slot-first s n t source coded m)
             p mask start slot register coded r area (c .slot);
         place =
-            place-given (λ s. slotCall s t source coded next) (λ s. placed (nextState s)) (λ s n. slot-first s n next t source coded)
+            place-given (λ s. slotCall s t source coded m) (λ s. placed (nextState s)) (λ s n. slot-first s n t source coded m)
             p mask start slot register next r left (c .place);
       }
 
-  pub receive-given : Received (stateAt p mask start (narrowed slot) register) t coded source next r area left → Received (stateAt p mask start slot register) t coded source next r area left
-  receive-given c =
+  pub receive-given : (report told : List ℕ) → Received (stateAt p mask start (narrowed slot) register) t coded source report next r area told left
+      → Received (stateAt p mask start slot register) t coded source report next r area told left
+  receive-given report told c =
+      let m = returnedNumber report next in
       record {
         octets =
-            place-given (λ s. readCall s t coded source next) (λ s. sourceOf (rowsAt s) (s .mask) (s .register) coded) (λ s n. read-first s n next t source coded)
+            place-given (λ s. readCall s t coded source m) (λ s. sourceOf (rowsAt s) (s .mask) (s .register) coded) (λ s n. read-first s n t source coded m)
             p mask start slot register source r area (c .octets);
+        report-is = report-given (λ s. readCall s t coded source m) coded (λ s n. read-first s n t source coded m) p mask start slot register report told (c .report-is);
         place =
-            place-given (λ s. slotCall s t source coded next) (λ s. placed (nextState s)) (λ s n. slot-first s n next t source coded)
+            place-given (λ s. slotCall s t source coded m) (λ s. placed (nextState s)) (λ s n. slot-first s n t source coded m)
             p mask start slot register next _ left (record { number = refl; area = c .place })
             .area;
       }

@@ -1,5 +1,5 @@
 -- The calls at a place of a frame (document 01, "Plan and place" and "Refusal list"): the state they are handed as numbers,
--- and `next`, the area of two numbers that takes the state's next slot and register.
+-- `next`, the area of two numbers that takes the state's next slot and register, and `report`, that of a slot's stuff bits.
 use mathlib.Core.Path.{_≡_}
 use mathlib.Core.List.{List, [], _∷_}
 use Prim.Native.Nat.{ℕ}
@@ -12,7 +12,7 @@ use Rattle.plan.specs.declared.Plan.{Plan}
 use Rattle.plan.specs.declared.FrameState.{FrameState}
 use Rattle.plan.specs.States.{openNumber, passNumber}
 use Rattle.slot.specs.Slots.{slotOf}
-use Rattle.slot.specs.Reading.{receivedNumber, sourceOf}
+use Rattle.slot.specs.Reading.{receivedNumber, stuffIn, stuffWith, sourceOf}
 use Rattle.slot.specs.Calls.{rowsAt, dataNumber, lentNumber, nextState}
 
 -- what `next` takes of a state
@@ -31,23 +31,42 @@ openCall p mask start next = andThen (openNumber p mask start) (nextNumber next)
 unfoldable pub passCall : FrameState → List ℕ → ℕ
 passCall s next = andThen (passNumber s) (nextNumber next)
 
--- "Slot calls: 1, 6 .., 3, 2, 4, 5": 4 for `next` too
-unfoldable pub slotCall : FrameState → List ℕ → List ℕ → List ℕ → List ℕ → ℕ
-slotCall s t source coded next =
-    andThen (andThen (dataNumber s) (nextNumber next)) (lentNumber (rowsAt s) t source coded)
+-- what `report` takes of a reading: its stuff bits (document 02, N5)
+abbrev pub reported : ℕ → List ℕ
+reported stuff = stuff ∷ []
 
--- ", and in reading 8, 9, 10"
-unfoldable pub readCall : FrameState → List ℕ → List ℕ → List ℕ → List ℕ → ℕ
-readCall s t coded source next =
-    andThen (slotCall s t source coded next) (receivedNumber (rowsAt s) t (s .mask) (s .register) coded)
+abbrev pub reportLong : ℕ
+reportLong = 1
+
+unfoldable pub reportNumber : List ℕ → ℕ
+reportNumber report = pick (eqb (length report) reportLong) 0 LENGTH
+
+-- "An area for returned numbers is written by every answer .. where it has its length"
+abbrev pub reportLeft : List ℕ → ℕ → List ℕ
+reportLeft report stuff = pick (eqb (length report) reportLong) (reported stuff) report
+
+-- the areas of numbers that a reading returns
+abbrev pub returnedNumber : List ℕ → List ℕ → ℕ
+returnedNumber report next = andThen (reportNumber report) (nextNumber next)
+
+-- "Slot calls: 1, 6 .., 3, 2, 4, 5": 4 for areas of returned numbers too, whose refusal is n
+unfoldable pub slotCall : FrameState → List ℕ → List ℕ → List ℕ → ℕ → ℕ
+slotCall s t source coded n =
+    andThen (andThen (dataNumber s) n) (lentNumber (rowsAt s) t source coded)
+
+-- ", and in reading 8, 9"
+unfoldable pub readCall : FrameState → List ℕ → List ℕ → List ℕ → ℕ → ℕ
+readCall s t coded source n =
+    andThen (slotCall s t source coded n) (receivedNumber (rowsAt s) t (s .mask) (s .register) coded)
 
 -- coding a slot: its number r, the area of the slot, and `next`
 pub record Coded (s : FrameState) (t source coded next : List ℕ) (r : ℕ) (area left : List ℕ) : Type 0 where
-  pub slot : Answered (slotCall s t source coded next) (slotOf (rowsAt s) t (s .mask) (s .register) source) coded r area
-  pub place : Answered (slotCall s t source coded next) (placed (nextState s)) next r left
+  pub slot : Answered (slotCall s t source coded (nextNumber next)) (slotOf (rowsAt s) t (s .mask) (s .register) source) coded r area
+  pub place : Answered (slotCall s t source coded (nextNumber next)) (placed (nextState s)) next r left
 
--- reading a slot: its number r, the area of header and data, and `next`, which "8, 9 and 10 move .. on one place with the
+-- reading a slot: its number r, the area of header and data, `report`, and `next`, which "8, 9 .. move .. on one place with the
 -- register stepped as for a good slot"
-pub record Received (s : FrameState) (t coded source next : List ℕ) (r : ℕ) (area left : List ℕ) : Type 0 where
-  pub octets : Answered (readCall s t coded source next) (sourceOf (rowsAt s) (s .mask) (s .register) coded) source r area
-  pub place : left ≡ pick (eqb (slotCall s t source coded next) 0) (placed (nextState s)) next
+pub record Received (s : FrameState) (t coded source report next : List ℕ) (r : ℕ) (area told left : List ℕ) : Type 0 where
+  pub octets : Answered (readCall s t coded source (returnedNumber report next)) (sourceOf (rowsAt s) (s .mask) (s .register) coded) source r area
+  pub report-is : told ≡ reportLeft report (stuffWith (readCall s t coded source (returnedNumber report next)) (stuffIn (rowsAt s) (s .mask) (s .register) coded))
+  pub place : left ≡ pick (eqb (slotCall s t source coded (returnedNumber report next)) 0) (placed (nextState s)) next

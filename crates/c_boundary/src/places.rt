@@ -1,4 +1,4 @@
-// The state of a call, and the area that takes its next slot and register.
+// The state of a call, the area that takes its next slot and register, and the one that takes a slot's stuff bits.
 ghost use mathlib.Core.Path.{_≡_};
 ghost use lib.Dec.{eqb};
 ghost use lib.ListN.{length};
@@ -7,11 +7,14 @@ ghost use Rattle.refusal.specs.Numbers.{LENGTH};
 ghost use Rattle.plan.specs.Records.{stateAt};
 ghost use Rattle.c_boundary.specs.Narrow.{narrowed};
 ghost use Rattle.c_boundary.specs.Plans.{planOf};
-ghost use Rattle.c_boundary.specs.Calls.{placed, nextNumber};
+ghost use Rattle.c_boundary.specs.Calls.{placed, nextNumber, returnedNumber, reportLeft};
 use crate::numbers::narrow;
 use crate::numbers::word;
 use crate::plans::plan_of;
 use plan::FrameState;
+
+// How many numbers `report` has.
+const REPORT: usize = 1;
 
 // The state that a call is handed.
 pub fn state_of(plan: &[u8], mask: u32, start: u32, slot: u32, register: u32) -> FrameState
@@ -38,6 +41,28 @@ pub fn with_next(number: u8, next: &[u32]) -> u32
     ensures { λ r. ⌜ r ≡ andThen number (nextNumber (now (next .entry))) ⌝ }
 {
     with_two(number, next.len())
+}
+
+// The same of the areas `report` and `next`.
+pub fn with_report(number: u8, report: &[u16], next: &[u32]) -> u32
+    ensures { λ r. ⌜ r ≡ andThen number (returnedNumber (now (report .entry)) (now (next .entry))) ⌝ }
+{
+    if number != 0 {
+        return word(number);
+    }
+    if report.len() != REPORT {
+        return word(refusal::LENGTH);
+    }
+    with_next(0, next)
+}
+
+// Puts a slot's stuff bits where `report` has its length.
+pub fn put_report(stuff: u8, report: &mut [u16])
+    ensures { λ _. ⌜ now (report .exit) ≡ reportLeft (now (report .entry)) stuff ⌝ }
+{
+    if report.len() == REPORT {
+        report[0] = stuff as u16;
+    }
 }
 
 // Puts a state's next slot and register.

@@ -14,38 +14,40 @@ use Rattle.plan.specs.declared.Answer.{Answer}
 use Rattle.plan.specs.Records.{stateAt}
 use Rattle.plan.specs.States.{stateNumber}
 use Rattle.slot.specs.Slots.{slotOf}
+use Rattle.slot.specs.declared.SlotRead.{SlotRead}
+use Rattle.slot.specs.Reading.{stuffIn, noStuff, stuffWith}
 use Rattle.slot.specs.Calls.{rowsAt, dataNumber, nextState, readAnswer}
 use Rattle.stream.specs.SlotPackets.{laid, laidNumber, roomNumber, sourceArea, codePacketsAnswer, codePacketsArea, slotAnswer, headerIn, packetsIn, readPacketsAnswer, readHeaderArea, readPacketsArea}
 use Rattle.stream.specs.SlotPacketsLaws.{lays, room}
 use Rattle.c_boundary.specs.Narrow.{narrowed}
-use Rattle.c_boundary.specs.Calls.{placed, nextNumber, slotCall, readCall}
-use Rattle.c_boundary.specs.CallLaws.{place-given, code-good, read-is, place-left}
+use Rattle.c_boundary.specs.Calls.{placed, nextNumber, reportLeft, returnedNumber, slotCall, readCall}
+use Rattle.c_boundary.specs.CallLaws.{place-given, report-given, code-good, read-is, place-left}
 use Rattle.c_slots.specs.PacketCalls.{codePacketsCall, roomCall, readPacketsCall, CodedPackets, ReceivedPackets}
 
 -- a state's own refusal is that of each call
-module _ (s : FrameState) (n : stateNumber s ≡ 0 → ⊥) (t header packets coded next : List ℕ) where
+module _ (s : FrameState) (n : stateNumber s ≡ 0 → ⊥) (t header packets coded : List ℕ) where
   data-first : dataNumber s ≡ stateNumber s
   unfolding dataNumber
   data-first = onward (stateNumber s) _ _ refl n
 
-  code-first : codePacketsCall s t header packets coded next ≡ stateNumber s
+  code-first : (next : List ℕ) → codePacketsCall s t header packets coded next ≡ stateNumber s
   unfolding codePacketsCall laidNumber
-  code-first = onward (andThen (laidNumber s header packets) (nextNumber next)) _ _ (onward (laidNumber s header packets) _ _ (onward (dataNumber s) _ _ data-first n) n) n
+  code-first next = onward (andThen (laidNumber s header packets) (nextNumber next)) _ _ (onward (laidNumber s header packets) _ _ (onward (dataNumber s) _ _ data-first n) n) n
 
-  room-first : roomCall s t coded header packets next ≡ stateNumber s
+  room-first : (m : ℕ) → roomCall s t coded header packets m ≡ stateNumber s
   unfolding roomCall roomNumber
-  room-first = onward (andThen (roomNumber s header packets) (nextNumber next)) _ _ (onward (roomNumber s header packets) _ _ (onward (dataNumber s) _ _ data-first n) n) n
+  room-first m = onward (andThen (roomNumber s header packets) m) _ _ (onward (roomNumber s header packets) _ _ (onward (dataNumber s) _ _ data-first n) n) n
 
-  read-first : readPacketsCall s t coded header packets next ≡ stateNumber s
+  read-first : (m : ℕ) → readPacketsCall s t coded header packets m ≡ stateNumber s
   unfolding readPacketsCall
-  read-first = onward (roomCall s t coded header packets next) _ _ room-first n
+  read-first m = onward (roomCall s t coded header packets m) _ _ (room-first m) n
 
 -- where header, packets and `next` are refused for nothing, the call is that on the slot's header and data octets
 module _ (s : FrameState) (t header packets coded next : List ℕ) (h : andThen (laidNumber s header packets) (nextNumber next) ≡ 0) where
   coded-place : andThen (dataNumber s) (nextNumber next) ≡ 0
   coded-place = let a = then-zero (laidNumber s header packets) _ h in then-both (dataNumber s) _ (lays s header packets (a .0) .place) (a .1)
 
-  code-is : codePacketsCall s t header packets coded next ≡ slotCall s t (laid s header packets) coded next
+  code-is : codePacketsCall s t header packets coded next ≡ slotCall s t (laid s header packets) coded (nextNumber next)
   unfolding codePacketsCall slotCall
   code-is = then-next _ _ h ∙ sym (then-next _ _ coded-place)
 
@@ -59,57 +61,69 @@ module _ (s : FrameState) (t header packets coded next : List ℕ) (h : andThen 
       let c = code-good s t (laid s header packets) coded next coded-place a r area left w d (rw z at e) (rw z at f) in
       record { slot = rw code-is (c .slot); place = rw code-is (c .place) }
 
-module _ (s : FrameState) (t header packets coded next : List ℕ) (h : andThen (roomNumber s header packets) (nextNumber next) ≡ 0) where
-  room-place : andThen (dataNumber s) (nextNumber next) ≡ 0
+module _ (s : FrameState) (t header packets coded : List ℕ) (m : ℕ) (h : andThen (roomNumber s header packets) m ≡ 0) where
+  room-place : andThen (dataNumber s) m ≡ 0
   room-place = let a = then-zero (roomNumber s header packets) _ h in then-both (dataNumber s) _ (room s header packets (a .0) .place) (a .1)
 
-  room-is : roomCall s t coded header packets next ≡ slotCall s t (sourceArea s) coded next
+  room-is : roomCall s t coded header packets m ≡ slotCall s t (sourceArea s) coded m
   unfolding roomCall slotCall
   room-is = then-next _ _ h ∙ sym (then-next _ _ room-place)
 
-  call-is : readPacketsCall s t coded header packets next ≡ readCall s t coded (sourceArea s) next
+  call-is : readPacketsCall s t coded header packets m ≡ readCall s t coded (sourceArea s) m
   unfolding readPacketsCall readCall
   call-is = rw room-is
 
-  pub packets-received : (a : Answer) (r : ℕ) (head area left : List ℕ) → r ≡ a .number → left ≡ pick (eqb (a .state .slot) (s .slot)) next (placed (a .state))
-      → a ≡ readPacketsAnswer s t coded header packets
-      → head ≡ readHeaderArea s t coded header packets
-      → area ≡ readPacketsArea s t coded header packets
-      → ReceivedPackets s t coded header packets next r head area left
-  unfolding readPacketsAnswer readHeaderArea readPacketsArea slotAnswer readAnswer
-  packets-received a r head area left w d e f g =
-      let z = eq-eqb (roomNumber s header packets) 0 (then-zero (roomNumber s header packets) _ h .0) in
-      let b = rw z at e in
-      let m = call-is ∙ read-is s t (sourceArea s) coded next room-place in
-      record {
-        header-is = record { number = w ∙ ap (λ x. x .number) b ∙ sym m; area = rw m (rw z at f) };
-        packets-are = record { number = w ∙ ap (λ x. x .number) b ∙ sym m; area = rw m (rw z at g) };
-        place =
-            place-left s t (sourceArea s) coded next room-place (a .state) left (ap (λ x. x .state) b) d
-            ∙ ap (λ (n : ℕ). pick (eqb n 0) (placed (nextState s)) next) (sym room-is);
-      }
+pub packets-received : (s : FrameState) (t header packets coded report next : List ℕ) → andThen (roomNumber s header packets) (returnedNumber report next) ≡ 0
+    → (a : SlotRead) (r : ℕ) (head area told left : List ℕ) → r ≡ a .number → told ≡ reportLeft report (a .stuff) → left ≡ pick (eqb (a .state .slot) (s .slot)) next (placed (a .state))
+    → a ≡ readPacketsAnswer s t coded header packets
+    → head ≡ readHeaderArea s t coded header packets
+    → area ≡ readPacketsArea s t coded header packets
+    → ReceivedPackets s t coded header packets report next r head area told left
+unfolding readPacketsAnswer readHeaderArea readPacketsArea slotAnswer readAnswer
+packets-received s t header packets coded report next h a r head area told left w x d e f g =
+    let n = returnedNumber report next in
+    let z = eq-eqb (roomNumber s header packets) 0 (then-zero (roomNumber s header packets) _ h .0) in
+    let b = rw z at e in
+    let p = room-place s t header packets coded n h in
+    let m = call-is s t header packets coded n h ∙ read-is s t (sourceArea s) coded n p in
+    record {
+      header-is = record { number = w ∙ ap (λ q. q .number) b ∙ sym m; area = rw m (rw z at f) };
+      packets-are = record { number = w ∙ ap (λ q. q .number) b ∙ sym m; area = rw m (rw z at g) };
+      report-is = x ∙ ap (λ q. reportLeft report (q .stuff)) b ∙ ap (λ i. reportLeft report (stuffWith i (stuffIn (rowsAt s) (s .mask) (s .register) coded))) (sym m);
+      place =
+          place-left s t (sourceArea s) coded n p next (a .state) left (ap (λ q. q .state) b) d
+          ∙ ap (λ (i : ℕ). pick (eqb i 0) (placed (nextState s)) next) (sym (room-is s t header packets coded n h));
+    }
 
 -- and where they are refused
-module _ (s : FrameState) (t header packets coded next : List ℕ) (r : ℕ) (n : r ≡ 0 → ⊥) where
-  pub packets-not-coded : r ≡ andThen (laidNumber s header packets) (nextNumber next) → CodedPackets s t header packets coded next r coded next
+module _ (s : FrameState) (t header packets coded : List ℕ) (r : ℕ) (n : r ≡ 0 → ⊥) where
+  pub packets-not-coded : (next : List ℕ) → r ≡ andThen (laidNumber s header packets) (nextNumber next) → CodedPackets s t header packets coded next r coded next
   unfolding codePacketsCall
-  packets-not-coded e =
+  packets-not-coded next e =
       let d = e ∙ sym (then-first _ _ (λ z. n (e ∙ z))) in
       record { slot = refused _ _ _ _ d n; place = refused _ _ _ _ d n }
 
-  room-refused : r ≡ andThen (roomNumber s header packets) (nextNumber next) → r ≡ roomCall s t coded header packets next
+  room-refused : (m : ℕ) → r ≡ andThen (roomNumber s header packets) m → r ≡ roomCall s t coded header packets m
   unfolding roomCall
-  room-refused e = e ∙ sym (then-first _ _ (λ z. n (e ∙ z)))
+  room-refused m e = e ∙ sym (then-first _ _ (λ z. n (e ∙ z)))
 
-  read-refused : r ≡ roomCall s t coded header packets next → r ≡ readPacketsCall s t coded header packets next
+  read-refused : (m : ℕ) → r ≡ roomCall s t coded header packets m → r ≡ readPacketsCall s t coded header packets m
   unfolding readPacketsCall
-  read-refused e = e ∙ sym (then-first _ _ (λ z. n (e ∙ z)))
+  read-refused m e = e ∙ sym (then-first _ _ (λ z. n (e ∙ z)))
 
-  pub packets-not-received : r ≡ andThen (roomNumber s header packets) (nextNumber next) → ReceivedPackets s t coded header packets next r header packets next
-  packets-not-received e =
-      let d = room-refused e in
-      let c = read-refused d in
-      record { header-is = refused _ _ _ _ c n; packets-are = refused _ _ _ _ c n; place = rw (ne-eqb (roomCall s t coded header packets next) 0 (λ z. n (d ∙ z))) }
+  pub packets-not-received : (report next : List ℕ) → r ≡ andThen (roomNumber s header packets) (returnedNumber report next)
+      → (told : List ℕ) → told ≡ reportLeft report noStuff
+      → ReceivedPackets s t coded header packets report next r header packets told next
+  packets-not-received report next e told x =
+      let m = returnedNumber report next in
+      let d = room-refused m e in
+      let c = read-refused m d in
+      record {
+        header-is = refused _ _ _ _ c n;
+        packets-are = refused _ _ _ _ c n;
+        report-is = x ∙ rw (ne-eqb (readPacketsCall s t coded header packets m) 0 (λ z. n (c ∙ z)));
+        place = rw (ne-eqb (roomCall s t coded header packets m) 0 (λ z. n (d ∙ z)));
+      }
 
 -- the calls answer for the slot number as it was handed over
 module _ (p : Plan) (mask start slot register : ℕ) (t header packets coded next : List ℕ) (r : ℕ) (left : List ℕ) where
@@ -125,18 +139,20 @@ module _ (p : Plan) (mask start slot register : ℕ) (t header packets coded nex
             p mask start slot register next r left (c .place);
       }
 
-  pub received-given : (head area : List ℕ) → ReceivedPackets (stateAt p mask start (narrowed slot) register) t coded header packets next r head area left
-      → ReceivedPackets (stateAt p mask start slot register) t coded header packets next r head area left
-  received-given head area c =
+  pub received-given : (report head area told : List ℕ) → ReceivedPackets (stateAt p mask start (narrowed slot) register) t coded header packets report next r head area told left
+      → ReceivedPackets (stateAt p mask start slot register) t coded header packets report next r head area told left
+  received-given report head area told c =
+      let m = returnedNumber report next in
       record {
         header-is =
-            place-given (λ s. readPacketsCall s t coded header packets next) (λ s. headerIn s coded) (λ s n. read-first s n t header packets coded next)
+            place-given (λ s. readPacketsCall s t coded header packets m) (λ s. headerIn s coded) (λ s n. read-first s n t header packets coded m)
             p mask start slot register header r head (c .header-is);
         packets-are =
-            place-given (λ s. readPacketsCall s t coded header packets next) (λ s. packetsIn s coded) (λ s n. read-first s n t header packets coded next)
+            place-given (λ s. readPacketsCall s t coded header packets m) (λ s. packetsIn s coded) (λ s n. read-first s n t header packets coded m)
             p mask start slot register packets r area (c .packets-are);
+        report-is = report-given (λ s. readPacketsCall s t coded header packets m) coded (λ s n. read-first s n t header packets coded m) p mask start slot register report told (c .report-is);
         place =
-            place-given (λ s. roomCall s t coded header packets next) (λ s. placed (nextState s)) (λ s n. room-first s n t header packets coded next)
+            place-given (λ s. roomCall s t coded header packets m) (λ s. placed (nextState s)) (λ s n. room-first s n t header packets coded m)
             p mask start slot register next _ left (record { number = refl; area = c .place })
             .area;
       }

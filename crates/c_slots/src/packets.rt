@@ -29,8 +29,8 @@ pub fn code_packets(
     c_boundary::word(answer.number)
 }
 
-// Reads the next slot into its header and packets; a refusal leaves them as they were, and `next` too unless the slot
-// itself was refused.
+// Reads the next slot into its header and packets, and puts its stuff bits into `report`; a refusal leaves header and packets
+// as they were, and `next` too unless the slot itself was refused.
 pub fn read_packets(
     plan: &[u8],
     mask: u32,
@@ -41,17 +41,20 @@ pub fn read_packets(
     coded: &[u8],
     header: &mut [u8],
     packets: &mut [u8],
+    report: &mut [u16],
     next: &mut [u32],
 ) -> u32
-    ensures { λ r. ⌜ ReceivedPackets (stateAt (planOf (now (plan .entry))) mask start slot register) (now (table .entry)) (now (coded .entry)) (now (header .entry)) (now (packets .entry)) (now (next .entry)) r (now (header .exit)) (now (packets .exit)) (now (next .exit)) ⌝ }
+    ensures { λ r. ⌜ ReceivedPackets (stateAt (planOf (now (plan .entry))) mask start slot register) (now (table .entry)) (now (coded .entry)) (now (header .entry)) (now (packets .entry)) (now (report .entry)) (now (next .entry)) r (now (header .exit)) (now (packets .exit)) (now (report .exit)) (now (next .exit)) ⌝ }
 {
     let state = c_boundary::state_of(plan, mask, start, slot, register);
-    let number = c_boundary::with_next(stream::room_number(state, header, packets), next);
+    let number = c_boundary::with_report(stream::room_number(state, header, packets), report, next);
     if number != 0 {
+        c_boundary::put_report(slot::NO_STUFF, report);
         return number;
     }
-    let answer = stream::read_packets(state, table, coded, header, packets);
-    let after = answer.state;
+    let read = stream::read_packets(state, table, coded, header, packets);
+    c_boundary::put_report(read.stuff, report);
+    let after = read.state;
     c_boundary::put_moved(state.slot, after, next);
-    c_boundary::word(answer.number)
+    c_boundary::word(read.number)
 }

@@ -28,8 +28,8 @@ pub fn code_slot(
     c_boundary::word(answer.number)
 }
 
-// Reads the next slot into header and data octets; a refusal leaves them as they were, and `next` too unless the slot
-// itself was refused.
+// Reads the next slot into header and data octets, and puts its stuff bits into `report`; a refusal leaves the octets as they
+// were, and `next` too unless the slot itself was refused.
 pub fn read_slot(
     plan: &[u8],
     mask: u32,
@@ -39,17 +39,20 @@ pub fn read_slot(
     table: &[u16],
     coded: &[u8],
     source: &mut [u8],
+    report: &mut [u16],
     next: &mut [u32],
 ) -> u32
-    ensures { λ r. ⌜ Received (stateAt (planOf (now (plan .entry))) mask start slot register) (now (table .entry)) (now (coded .entry)) (now (source .entry)) (now (next .entry)) r (now (source .exit)) (now (next .exit)) ⌝ }
+    ensures { λ r. ⌜ Received (stateAt (planOf (now (plan .entry))) mask start slot register) (now (table .entry)) (now (coded .entry)) (now (source .entry)) (now (report .entry)) (now (next .entry)) r (now (source .exit)) (now (report .exit)) (now (next .exit)) ⌝ }
 {
     let state = c_boundary::state_of(plan, mask, start, slot, register);
-    let number = c_boundary::with_next(slot::data_number(state), next);
+    let number = c_boundary::with_report(slot::data_number(state), report, next);
     if number != 0 {
+        c_boundary::put_report(slot::NO_STUFF, report);
         return number;
     }
-    let answer = slot_reader::read_slot(state, table, coded, source);
-    let after = answer.state;
+    let read = slot_reader::read_slot(state, table, coded, source);
+    c_boundary::put_report(read.stuff, report);
+    let after = read.state;
     c_boundary::put_moved(state.slot, after, next);
-    c_boundary::word(answer.number)
+    c_boundary::word(read.number)
 }

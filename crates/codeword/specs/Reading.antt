@@ -1,14 +1,14 @@
 -- A received word, read (document 01, "Refusal list"): 8 and 9 in this order; the tail is handed out.
 use mathlib.Core.Path.{_≡_}
 use mathlib.Core.Bool.{Bool}
-use mathlib.Core.List.{List}
+use mathlib.Core.List.{List, _++_}
 use Prim.Native.Nat.{ℕ, _+_, _%_, _<_}
 use lib.Dec.{eqb}
 use lib.ListN.{take, drop}
 use Rattle.lists.specs.Choice.{pick, andThen}
 use Rattle.lists.specs.Parts.{part}
 use Rattle.refusal.specs.Numbers.{PARITY, BCH}
-use Rattle.bits.specs.Octets.{bitsOf}
+use Rattle.bits.specs.Octets.{bitsOf, octetsOf}
 use Rattle.bits.specs.Same.{same}
 use Rattle.bits.specs.Sums.{added}
 use Rattle.dispersal.specs.Dispersal.{dispersed}
@@ -17,7 +17,7 @@ use Rattle.parity_table.specs.Tables.{positions}
 use Rattle.ldpc.specs.Parity.{times, parityOf}
 use Rattle.parity_check.specs.Check.{lowestWrong}
 use Rattle.codeword.specs.declared.Shape.{Shape}
-use Rattle.codeword.specs.Words.{runBits, parityInput}
+use Rattle.codeword.specs.Words.{runBits, parityInput, withParity}
 
 -- the bits before the parity, as received, and the parity bits behind them
 abbrev pub runIn : Shape → List ℕ → List ℕ
@@ -65,6 +65,12 @@ wordNumber F t mask r c = checksNumber F (wrongPosition F t c) (takenOff F mask 
 pub record Good (F : Shape) (t : List ℕ) (mask r : ℕ) (c : List ℕ) : Type 0 where
   pub parity : parityIn F c ≡ parityOf (F .rows) t (parityInput F (runIn F c))
   pub bch : bchIn F (takenOff F mask r c) ≡ bchBits (messageIn F (takenOff F mask r c))
+
+-- document 02, N5: a received word with another tail e "there and its parity made anew": of the bits with dispersal taken off
+-- those before the tail, and e; dispersed again, with the parity of that
+unfoldable pub withTail : Shape → List ℕ → ℕ → ℕ → List ℕ → List ℕ → List ℕ
+withTail F t mask r c e =
+    octetsOf (F .octets) (withParity F t (dispersed (F .width) mask r (take (F .message + 192) (takenOff F mask r c) ++ e)))
 
 -- "the differing bits reach each position an even number of times": those of two words' parity inputs, as sent
 abbrev pub EvenTimes : Shape → List ℕ → List ℕ → List ℕ → Type 0

@@ -1,12 +1,14 @@
 -- Coding and then reading a word, and reading and then coding one. The tail comes back with the message: a word read with
 -- a tail is the word of that tail.
 use mathlib.Core.Path.{_≡_, sym, ap, _∙_}
-use mathlib.Core.List.{List}
-use Prim.Native.Nat.{ℕ}
-use lib.ListN.{length, take-append-drop}
-use lib.Seq.{take-at}
-use Rattle.lists.specs.ThreeRuns.{second-of-three, third-of-three, three-whole}
-use Rattle.bits.specs.Octets.{bitsOf}
+use mathlib.Core.List.{List, _++_, append-assoc}
+use mathlib.Core.Logic.{_↔_}
+use Prim.Native.Nat.{ℕ, _+_, _-_}
+use native.Mathlib.Omega.{arith}
+use lib.ListN.{length, take, drop, take-append-drop}
+use lib.Seq.{take-at, take-add}
+use Rattle.lists.specs.ThreeRuns.{second-of-three, third-of-three}
+use Rattle.bits.specs.Octets.{bitsOf, octetsOf}
 use Rattle.bits.specs.OctetLaws.{octets-bits}
 use Rattle.dispersal.specs.Dispersal.{dispersed}
 use Rattle.dispersal.specs.DispersalLaws.{dispersed-twice}
@@ -16,7 +18,7 @@ use Rattle.ldpc.specs.Parity.{parityOf}
 use Rattle.codeword.specs.declared.Shape.{Shape}
 use Rattle.codeword.specs.Words.{runBits, plain, sent, parityInput, withParity, wordOf}
 use Rattle.codeword.specs.WordLaws.{Fits, Message, plain-bits, word-run, word-parity, length-wordOf}
-use Rattle.codeword.specs.Reading.{runIn, takenOff, messageIn, bchIn, tailIn, wordNumber, Good}
+use Rattle.codeword.specs.Reading.{runIn, takenOff, messageIn, bchIn, tailIn, wordNumber, Good, withTail}
 use Rattle.codeword.specs.ReadingLaws.{Received, word-good, runIn-bits}
 
 -- what reading finds in the plain bits of a message m with a tail e
@@ -67,13 +69,39 @@ module _ (F : Shape) (t : List ℕ) (mask r : ℕ) (m e : List ℕ) (f : Fits F)
         tail = ap (tailIn F) word-takenOff ∙ plain-tail F m e (o .long);
       }
 
--- reading an accepted word and coding its message again with its tail, at the same register, returns its octets
-pub read-coded : (F : Shape) (t : List ℕ) (mask r : ℕ) (c : List ℕ) → Fits F → Received F c → wordNumber F t mask r c ≡ 0
-    → wordOf F t mask r (messageIn F (takenOff F mask r c)) (tailIn F (takenOff F mask r c)) ≡ c
-unfolding wordOf withParity sent plain takenOff
-read-coded F t mask r c f o h =
-    let u = takenOff F mask r c in
-    let g = word-good F t mask r c f (o .long) .0 h in
-    let p : plain (messageIn F u) (tailIn F u) ≡ u = rw (← g .bch) (three-whole (F .message) 192 u) in
-    let d : sent F mask r (messageIn F u) (tailIn F u) ≡ runIn F c = ap (dispersed (F .width) mask r) p ∙ dispersed-twice (F .width) mask r (runIn F c) (runIn-bits F c) in
-    rw (d, ← g .parity, take-append-drop (runBits F) (bitsOf c)) (octets-bits (F .octets) c (o .long) (o .octets))
+-- the bits before the tail are message and BCH bits
+before-tail : (F : Shape) (u e : List ℕ) → messageIn F u ++ (bchIn F u ++ e) ≡ take (F .message + 192) u ++ e
+before-tail F u e =
+    let n : F .message + 192 - F .message ≡ 192 = omega arith in
+    rw (n, take-add (F .message) 192 u) (sym (append-assoc (messageIn F u) (take 192 (drop (F .message) u)) e))
+
+-- a word that was read and accepted, and its message coded again at the same register
+module _ (F : Shape) (t : List ℕ) (mask r : ℕ) (c : List ℕ) (f : Fits F) (o : Received F c) (h : wordNumber F t mask r c ≡ 0) where
+  -- with a tail it is the received word with that tail
+  pub coded-again : (e : List ℕ) → wordOf F t mask r (messageIn F (takenOff F mask r c)) e ≡ withTail F t mask r c e
+  unfolding wordOf sent plain withTail
+  coded-again e =
+      let u = takenOff F mask r c in
+      let p : plain (messageIn F u) e ≡ take (F .message + 192) u ++ e = rw (← word-good F t mask r c f (o .long) .0 h .bch) (before-tail F u e) in
+      ap (λ (d : List ℕ). octetsOf (F .octets) (withParity F t (dispersed (F .width) mask r d))) p
+
+  -- the received word with its own tail is itself
+  own-tail : withTail F t mask r c (tailIn F (takenOff F mask r c)) ≡ c
+  unfolding withTail withParity takenOff
+  own-tail =
+      let g = word-good F t mask r c f (o .long) .0 h in
+      let d : dispersed (F .width) mask r (takenOff F mask r c) ≡ runIn F c = dispersed-twice (F .width) mask r (runIn F c) (runIn-bits F c) in
+      rw (take-append-drop (F .message + 192) (takenOff F mask r c), d, ← g .parity, take-append-drop (runBits F) (bitsOf c)) (octets-bits (F .octets) c (o .long) (o .octets))
+
+  -- so coding its message again with its own tail returns its octets
+  pub read-coded : wordOf F t mask r (messageIn F (takenOff F mask r c)) (tailIn F (takenOff F mask r c)) ≡ c
+  read-coded = coded-again (tailIn F (takenOff F mask r c)) ∙ own-tail
+
+  -- and no other tail does
+  pub coded-same : (e : List ℕ) → Message F (messageIn F (takenOff F mask r c)) e
+      → (wordOf F t mask r (messageIn F (takenOff F mask r c)) e ≡ c) ↔ (tailIn F (takenOff F mask r c) ≡ e)
+  coded-same e m =
+      let u = takenOff F mask r c in (
+        (λ d. ap (λ (x : List ℕ). tailIn F (takenOff F mask r x)) (sym d) ∙ coded-read F t mask r (messageIn F u) e f m .tail),
+        (λ d. ap (wordOf F t mask r (messageIn F u)) (sym d) ∙ read-coded),
+      )

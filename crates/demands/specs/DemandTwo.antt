@@ -24,9 +24,9 @@ use Rattle.slot.specs.Slots.{slotShape, slotOf}
 use Rattle.slot.specs.SlotLaws.{Source}
 use Rattle.codeword.specs.Reading.{wordNumber, Good}
 use Rattle.codeword.specs.ReadingLaws.{Received, word-good}
-use Rattle.slot.specs.Reading.{receivedNumber, GoodSlot, sourceOf}
+use Rattle.slot.specs.Reading.{receivedNumber, stuffIn, noStuff, stuffOnes, sourceOf}
 use Rattle.slot.specs.ReadingLaws.{received-good}
-use Rattle.slot.specs.Calls.{rowsAt}
+use Rattle.slot.specs.Calls.{rowsAt, CodedAgain}
 use Rattle.slot.specs.RoundTrips as slots
 use Rattle.stream.specs.Back as packets
 use Rattle.tmcc.specs.Blocks.{blockShape}
@@ -35,10 +35,10 @@ use Rattle.tmcc.specs.Calls.{lentNumber as blockLentNumber, readNumber}
 use Rattle.tmcc.specs.CallLaws.{lent}
 use Rattle.tmcc.specs.RoundTrips as blocks
 use Rattle.frame.specs.Tables.{tableOf}
-use Rattle.frame.specs.Steps.{tableAt, answerAt, readAt}
-use Rattle.frame.specs.StepLaws.{coded-data, coded-dummy, answer-data, answer-dummy, read-dummy}
-use Rattle.frame.specs.Frames.{rowsOfSlot, registerBefore, stateBefore, slotIn, octetsOfSlot, sourceFrom, sourceIn, frameOf, answersOf, sourcesOf}
-use Rattle.frame.specs.FrameLaws.{at, sourceFrom-none, sourceFrom-more, data-long, length-slotIn, length-frameOf, length-sourcesOf, slot-at, answer-at, source-at}
+use Rattle.frame.specs.Steps.{tableAt, answerAt, stuffAt, readAt}
+use Rattle.frame.specs.StepLaws.{coded-data, coded-dummy, answer-data, answer-dummy, stuff-dummy, read-dummy}
+use Rattle.frame.specs.Frames.{rowsOfSlot, registerBefore, stateBefore, slotIn, octetsOfSlot, sourceFrom, sourceIn, frameOf, answersOf, stuffsOf, sourcesOf}
+use Rattle.frame.specs.FrameLaws.{at, sourceFrom-none, sourceFrom-more, data-long, length-slotIn, length-frameOf, length-sourcesOf, slot-at, answer-at, stuff-at, source-at}
 use Rattle.frame.specs.CallLaws.{Lent, frame-lent, frame-yes, read-lent, read-yes}
 use Rattle.frame.specs.SlotBySlot.{coded-to, read-to, taken, code-answer, code-area, read-answer, read-area, pass-answer}
 use Rattle.lookup.specs.LookupLaws.{tables-accepted}
@@ -121,11 +121,11 @@ module _ (p : Plan) (mask start : ℕ) (ts source frame out : List ℕ) (o : Oct
   abbrev coded : List ℕ
   coded = frameOf p ts mask start source frame
 
-  abbrev reading : ℕ → List ℕ → Type 0
-  reading n octets = (answerAt here ts (slotIn coded k) ≡ n) × (readAt here ts (slotIn coded k) (sourceIn p out k) ≡ octets)
+  abbrev reading : ℕ → ℕ → List ℕ → Type 0
+  reading n x octets = (answerAt here ts (slotIn coded k) ≡ n) × (readAt here ts (slotIn coded k) (sourceIn p out k) ≡ octets) × (stuffAt here ts (slotIn coded k) ≡ x)
 
-  data-back : carries p (k + 1) ≡ true → reading 0 (sourceIn p source k)
-  unfolding readAt rowsAt
+  data-back : carries p (k + 1) ≡ true → reading 0 stuffOnes (sourceIn p source k)
+  unfolding readAt stuffAt rowsAt
   data-back c =
       let a = at p ts mask start (l .opened) (l .tables) k h in
       let e : slotIn coded k ≡ slotOf (rowsOfSlot p (k + 1)) (tableAt here ts) mask (registerBefore p mask start k) (sourceIn p source k)
@@ -134,38 +134,44 @@ module _ (p : Plan) (mask start : ℕ) (ts source frame out : List ℕ) (o : Oct
       = record { octets = below-part 255 (sourceFrom p k) (sourceFrom p (k + 1)) source o; long = data-long p source (l .source-long) k h c } in
       let r = slots.coded-read (rowsOfSlot p (k + 1)) (tableAt here ts) mask (registerBefore p mask start k) (sourceIn p source k) (a .rows) s in
       let n : answerAt here ts (slotIn coded k) ≡ 0
-      = answer-data here ts c (slotIn coded k) ∙ ap (receivedNumber (rowsOfSlot p (k + 1)) (tableAt here ts) mask (registerBefore p mask start k)) e ∙ r .number in
-      (n, rw (eq-eqb _ 0 n) (ap (sourceOf (rowsOfSlot p (k + 1)) mask (registerBefore p mask start k)) e ∙ r .source))
+      = answer-data here ts c (slotIn coded k) ∙ ap (receivedNumber (rowsOfSlot p (k + 1)) (tableAt here ts) mask (registerBefore p mask start k)) e ∙ r .number in (
+        n,
+        rw (eq-eqb _ 0 n) (ap (sourceOf (rowsOfSlot p (k + 1)) mask (registerBefore p mask start k)) e ∙ r .source),
+        rw (eq-eqb _ 0 n) (ap (stuffIn (rowsOfSlot p (k + 1)) mask (registerBefore p mask start k)) e ∙ r .stuff),
+      )
 
-  dummy-back : carries p (k + 1) ≡ false → reading DUMMY (sourceIn p source k)
+  dummy-back : carries p (k + 1) ≡ false → reading DUMMY noStuff (sourceIn p source k)
   dummy-back c =
-      (answer-dummy here ts c (slotIn coded k), read-dummy here ts c (slotIn coded k) (sourceIn p out k) ∙ no-octets p out source k c)
+      (answer-dummy here ts c (slotIn coded k), read-dummy here ts c (slotIn coded k) (sourceIn p out k) ∙ no-octets p out source k c, stuff-dummy here ts c (slotIn coded k))
 
-  slot-back : reading (pick (carries p (k + 1)) 0 DUMMY) (sourceIn p source k)
+  slot-back : reading (pick (carries p (k + 1)) 0 DUMMY) (pick (carries p (k + 1)) stuffOnes noStuff) (sourceIn p source k)
   slot-back = go (carries p (k + 1)) refl
     where
-      go : (b : Bool) → carries p (k + 1) ≡ b → reading (pick (carries p (k + 1)) 0 DUMMY) (sourceIn p source k)
+      go : (b : Bool) → carries p (k + 1) ≡ b → reading (pick (carries p (k + 1)) 0 DUMMY) (pick (carries p (k + 1)) stuffOnes noStuff) (sourceIn p source k)
       go true c = rw c (data-back c)
       go false c = rw c (dummy-back c)
 
 pub frame-coded-then-read : FrameCodedThenRead
 unfolding sourcesOf
-frame-coded-then-read p mask start ts source frame out answers o lo la n =
+frame-coded-then-read p mask start ts source frame out answers stuff o lo la ls n =
     let l = frame-lent p mask start ts (length source) (length frame) n in
     let c = frameOf p ts mask start source frame in
     record {
-      number = read-yes p mask start ts (length out) (length c) (length answers) la
+      number = read-yes p mask start ts (length out) (length c) (length answers) (length stuff) la ls
           (record { opened = l .opened; source-long = lo ∙ l .source-long; frame-long = length-frameOf p ts mask start source frame (l .frame-long); tables = l .tables });
       sources = joined-same 120 (λ k. readAt (stateBefore p mask start k) ts (slotIn c k) (sourceIn p out k)) (sourceIn p source) (λ k h. slot-back p mask start ts source frame out o l k h .1)
           ∙ pieces-all 120 (sourceFrom p) source (sourceFrom-none p) (λ k h. omega (arith, sourceFrom-more p k)) (l .source-long);
       each = λ k h. answer-at p ts mask start c k h ∙ slot-back p mask start ts source frame out o l k h .0;
+      stuffed = λ k h. stuff-at p ts mask start c k h ∙ slot-back p mask start ts source frame out o l k h .2;
     }
 
 -- an accepted data slot of a frame that was read, coded again
 module _ (p : Plan) (mask start : ℕ) (ts frame source out : List ℕ) (o : Octets frame) (lo : length out ≡ frameOctets)
     (l : Lent p mask start ts (length source) (length frame)) (k : ℕ) (h : k < 120) (c : carries p (k + 1) ≡ true) where
-  slot-again : getD (answersOf p ts mask start frame) k 0 ≡ 0 → slotIn (frameOf p ts mask start (sourcesOf p ts mask start frame source) out) k ≡ slotIn frame k
-  unfolding readAt rowsAt
+  slot-again : getD (answersOf p ts mask start frame) k 0 ≡ 0
+      → CodedAgain (rowsOfSlot p (k + 1)) (tableOf p ts (groupAt p (k + 1))) mask (registerBefore p mask start k) (getD (stuffsOf p ts mask start frame) k 0)
+      (slotIn frame k) (slotIn (frameOf p ts mask start (sourcesOf p ts mask start frame source) out) k)
+  unfolding readAt stuffAt tableAt rowsAt
   slot-again e =
       let s = stateBefore p mask start k in
       let R = rowsOfSlot p (k + 1) in
@@ -177,14 +183,14 @@ module _ (p : Plan) (mask start : ℕ) (ts frame source out : List ℕ) (o : Oct
       let g : receivedNumber R t mask r d ≡ 0 = sym (answer-data s ts c d) ∙ n in
       let w : Received (slotShape R) d = record { octets = below-part 255 (slotOctets * k) (slotOctets * (k + 1)) frame o; long = length-slotIn frame k (l .frame-long) h } in
       let z : sourceIn p m k ≡ sourceOf R mask r d = source-at p ts mask start frame source (l .source-long) k h ∙ rw (eq-eqb _ 0 n) in
-      slot-at p ts mask start m out lo k h
-      ∙ coded-data s ts c (sourceIn p m k) (slotIn out k)
-      ∙ ap (slotOf R t mask r) z
-      ∙ slots.read-coded R t mask r d (at p ts mask start (l .opened) (l .tables) k h .rows) w g
+      let x : getD (stuffsOf p ts mask start frame) k 0 ≡ stuffIn R mask r d = stuff-at p ts mask start frame k h ∙ rw (eq-eqb _ 0 n) in
+      let f : slotIn (frameOf p ts mask start m out) k ≡ slotOf R t mask r (sourceOf R mask r d)
+      = slot-at p ts mask start m out lo k h ∙ coded-data s ts c (sourceIn p m k) (slotIn out k) ∙ ap (slotOf R t mask r) z in
+      rw (x, f) (slots.read-coded R t mask r d (at p ts mask start (l .opened) (l .tables) k h .rows) w g)
 
 pub frame-read-then-coded : FrameReadThenCoded
-frame-read-then-coded p mask start ts frame source answers out o lo n =
-    let l = read-lent p mask start ts (length source) (length frame) (length answers) n .1 in
+frame-read-then-coded p mask start ts frame source answers stuff out o lo n =
+    let l = read-lent p mask start ts (length source) (length frame) (length answers) (length stuff) n .2 in
     let long = length-sourcesOf p ts mask start frame source (l .source-long) in
     record {
       number = frame-yes p mask start ts (length (sourcesOf p ts mask start frame source)) (length out)
@@ -195,7 +201,7 @@ frame-read-then-coded p mask start ts frame source answers out o lo n =
 -- a data slot is answered as a received slot is, and a dummy is answered 2
 pub frame-slot-accepted : FrameSlotAccepted
 unfolding rowsAt tableAt
-frame-slot-accepted p mask start ts source frame answers n k h = go (carries p (k + 1)) refl
+frame-slot-accepted p mask start ts source frame answers stuff n k h = go (carries p (k + 1)) refl
   where
     s : FrameState
     s = stateBefore p mask start k
@@ -204,10 +210,10 @@ frame-slot-accepted p mask start ts source frame answers n k h = go (carries p (
     d = slotIn frame k
 
     good : Type 0
-    good = GoodSlot (rowsOfSlot p (k + 1)) (tableOf p ts (groupAt p (k + 1))) mask (registerBefore p mask start k) d
+    good = Good (slotShape (rowsOfSlot p (k + 1))) (tableOf p ts (groupAt p (k + 1))) mask (registerBefore p mask start k) d
 
     l : Lent p mask start ts (length source) (length frame)
-    l = read-lent p mask start ts (length source) (length frame) (length answers) n .1
+    l = read-lent p mask start ts (length source) (length frame) (length answers) (length stuff) n .2
 
     right : (receivedNumber (rowsOfSlot p (k + 1)) (tableOf p ts (groupAt p (k + 1))) mask (registerBefore p mask start k) d ≡ 0) ↔ good
     right =
@@ -244,8 +250,8 @@ frame-coded-by-slots p mask start ts source frame n =
     }
 
 pub frame-read-by-slots : FrameReadBySlots
-frame-read-by-slots p mask start ts source frame answers n =
-    let l = read-lent p mask start ts (length source) (length frame) (length answers) n .1 in
+frame-read-by-slots p mask start ts source frame answers stuff n =
+    let l = read-lent p mask start ts (length source) (length frame) (length answers) (length stuff) n .2 in
     let to = read-to p mask start ts source frame l in
     record {
       state = to;
@@ -254,6 +260,7 @@ frame-read-by-slots p mask start ts source frame answers n =
           let t = taken p mask start ts source frame l k h c in
           rw (to k (omega arith)) (
             read-answer s ts (sourceIn p source k) (slotIn frame k) t c .0 ∙ sym (answer-at p ts mask start frame k h),
+            read-answer s ts (sourceIn p source k) (slotIn frame k) t c .2 ∙ sym (stuff-at p ts mask start frame k h),
             read-area s ts (sourceIn p source k) (slotIn frame k) t c ∙ sym (source-at p ts mask start frame source (l .source-long) k h),
           );
       dummy = λ k h c.
@@ -261,5 +268,6 @@ frame-read-by-slots p mask start ts source frame answers n =
           rw (to k (omega arith)) (
             pass-answer s ts (at p ts mask start (l .opened) (l .tables) k h .ready) c .0,
             answer-at p ts mask start frame k h ∙ answer-dummy s ts c (slotIn frame k),
+            stuff-at p ts mask start frame k h ∙ stuff-dummy s ts c (slotIn frame k),
           );
     }

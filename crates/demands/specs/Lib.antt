@@ -1,6 +1,7 @@
 pub mod Statements
 pub mod Requests
 pub mod CardRequests
+pub mod StuffRequests
 pub mod DemandTwo
 pub mod DemandThree
 pub mod WorkedByHand
@@ -8,3 +9,4 @@ pub mod PlanRules
 pub mod TlvRules
 pub mod ParitySteps
 pub mod CardRules
+pub mod StuffRules

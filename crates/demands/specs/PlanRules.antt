@@ -23,7 +23,7 @@ use Rattle.packets.specs.Packets.{sizeNumber, packNumber, unpackNumber}
 use Rattle.symbols.specs.Labels.{slotNumber as labelsNumber, slotOfLabelsNumber}
 use Rattle.slot.specs.Calls.{dataNumber, slotNumber, codeAnswer, readNumber, readAnswer, formNumber, checkNumber}
 use Rattle.stream.specs.SlotPackets.{laidNumber, roomNumber, codePacketsAnswer, readPacketsAnswer}
-use Rattle.frame.specs.Frames.{frameNumber, readFrameNumber}
+use Rattle.frame.specs.Frames.{wholeNumber, frameNumber, readFrameNumber}
 use Rattle.lookup.specs.Lookups.{tablesNumber, placeNumber, placed}
 use Rattle.plan_octets.specs.Groups.{column, ofOctets}
 use Rattle.c_boundary.specs.Plans.{lengthOk, planOf}
@@ -36,13 +36,13 @@ pub plan-refused : PlanRefused
 plan-refused p = record { groups = wrong-groups p; value = wrong-value p; order = wrong-order p; total = wrong-total p }
 
 pub refused-plan-answered : RefusedPlanAnswered
-unfolding opened openNumber frameNumber readFrameNumber tablesNumber placed placeNumber
+unfolding opened openNumber wholeNumber frameNumber readFrameNumber tablesNumber placed placeNumber
 refused-plan-answered p h =
     let o : (mask start : ℕ) → openNumber p mask start ≡ planNumber p = λ mask start. then-first (planNumber p) _ h in
     record {
       opening = o;
       code = λ mask start ts source frame. onward (openNumber p mask start) _ _ (o mask start) h;
-      read = λ mask start ts source frame answers. onward (openNumber p mask start) _ _ (o mask start) h;
+      read = λ mask start ts source frame answers stuff. onward (openNumber p mask start) _ _ (o mask start) h;
       tables = λ area. then-first (planNumber p) _ h;
       place = λ slot. rw (ne-eqb (slot + 1) 0 (λ e. omega arith)) (then-first (planNumber p) _ h);
     }

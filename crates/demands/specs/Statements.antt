@@ -35,30 +35,31 @@ use Rattle.codeword.specs.declared.Shape.{Shape}
 use Rattle.codeword.specs.Words.{registerAfter as wordRegisterAfter}
 use Rattle.codeword.specs.Reading.{parityIn, takenOff, bchIn, Good, EvenTimes}
 use Rattle.slot.specs.Slots.{slotShape, registerAfter}
-use Rattle.slot.specs.Reading.{covered, parity, GoodSlot, MovesOn}
-use Rattle.slot.specs.Calls.{rowsAt, slotNumber, codeAnswer, codeArea, readAnswer, readArea, Answers}
+use Rattle.slot.specs.Reading.{covered, parity, noStuff, stuffOnes, MovesOn}
+use Rattle.slot.specs.Calls.{rowsAt, slotNumber, codeAnswer, codeArea, readAnswer, readArea, Reads, CodedAgain, CodedBack}
 use Rattle.stream.specs.SlotPackets.{headerOctets, codePacketsAnswer, codePacketsArea, readPacketsAnswer, readHeaderArea, readPacketsArea, ReadBack}
 use Rattle.tmcc.specs.Blocks.{sourceOctets as tmccOctets, blockShape, messageOf, blockOf, sourceOf}
 use Rattle.tmcc.specs.Calls.{lentNumber as blockLentNumber, codeNumber, readNumber}
 use Rattle.frame.specs.Tables.{tableOf, tablesOk}
 use Rattle.frame.specs.Steps.{tableAt}
-use Rattle.frame.specs.Frames.{rowsOfSlot, registerBefore, stateBefore, slotIn, sourceIn, frameOf, answersOf, sourcesOf, frameNumber, readFrameNumber}
+use Rattle.frame.specs.Frames.{rowsOfSlot, registerBefore, stateBefore, slotIn, sourceIn, frameOf, answersOf, stuffsOf, sourcesOf, frameNumber, readFrameNumber}
 use Rattle.frame.specs.Walks.{codedTo, readTo}
 use Rattle.lookup.specs.Lookups.{tablesOf}
 
--- DEMAND 2, "Coding then reading returns header and data": a slot, at one state with one table
+-- DEMAND 2, "Coding then reading returns header and data": a slot, at one state with one table; its stuff bits are ones
 abbrev pub SlotCodedThenRead : Type 0
 SlotCodedThenRead =
     (s : FrameState) (t source coded out : List ℕ) → Octets source → length out ≡ length source
     → codeAnswer s t source coded .number ≡ 0
-    → Answers (readAnswer s t (codeArea s t source coded) out) (readArea s t (codeArea s t source coded) out) (codeAnswer s t source coded .state) source
+    → Reads (readAnswer s t (codeArea s t source coded) out) (readArea s t (codeArea s t source coded) out) (codeAnswer s t source coded .state) stuffOnes source
 
--- "reading an accepted slot and coding it again returns its bits"
+-- "reading an accepted slot and coding it again returns its bits", which document 02, N5, amends: "Coding back what was read gives
+-- the same slot only where that number is 63; for other numbers it gives the slot with ones there and its parity made anew"
 abbrev pub SlotReadThenCoded : Type 0
 SlotReadThenCoded =
     (s : FrameState) (t coded source out : List ℕ) → Octets coded → length out ≡ length coded
     → readAnswer s t coded source .number ≡ 0
-    → Answers (codeAnswer s t (readArea s t coded source) out) (codeArea s t (readArea s t coded source) out) (readAnswer s t coded source .state) coded
+    → CodedBack s t (readAnswer s t coded source) (codeAnswer s t (readArea s t coded source) out) coded (codeArea s t (readArea s t coded source) out)
 
 -- the same of header and packets: a slot coded from both gives both back, with the state that coding gave
 abbrev pub PacketsCodedThenRead : Type 0
@@ -68,16 +69,16 @@ PacketsCodedThenRead =
     → codePacketsAnswer s t header packets coded .number ≡ 0
     → let c = codePacketsArea s t header packets coded in
     ReadBack (readPacketsAnswer s t c head found) (readHeaderArea s t c head found) (readPacketsArea s t c head found)
-    (codePacketsAnswer s t header packets coded .state) header packets
+    (codePacketsAnswer s t header packets coded .state) stuffOnes header packets
 
--- and a slot that was accepted, coded again from the header and packets that were read, returns its octets
+-- and a slot that was accepted, coded again from the header and packets that were read, is that slot again in the same sense
 abbrev pub PacketsReadThenCoded : Type 0
 PacketsReadThenCoded =
     (s : FrameState) (t coded head found out : List ℕ) → Octets coded → length out ≡ length coded
     → readPacketsAnswer s t coded head found .number ≡ 0
     → let h = readHeaderArea s t coded head found in
     let p = readPacketsArea s t coded head found in
-    Answers (codePacketsAnswer s t h p out) (codePacketsArea s t h p out) (readPacketsAnswer s t coded head found .state) coded
+    CodedBack s t (readPacketsAnswer s t coded head found) (codePacketsAnswer s t h p out) coded (codePacketsArea s t h p out)
 
 -- "In a whole-frame call the groups' tables follow each other in group order": the published ones of an accepted plan are
 -- tables that no whole-frame call refuses
@@ -85,19 +86,19 @@ abbrev pub PublishedTablesTaken : Type 0
 PublishedTablesTaken = (p : Plan) → planNumber p ≡ 0 → tablesOk p (tablesOf p) ≡ true
 
 -- "Reading accepts only what passes all checks", and all that does: a slot is answered 0 exactly when nothing that comes
--- before the slot itself refuses the call, its parity and BCH bits are right, and its stuff bits are ones
+-- before the slot itself refuses the call, and its parity and BCH bits are right; of its stuff bits document 02, N5, asks nothing
 abbrev pub SlotAccepted : Type 0
 SlotAccepted =
     (s : FrameState) (t coded source : List ℕ)
-    → (readAnswer s t coded source .number ≡ 0) ↔ ((slotNumber s t source coded ≡ 0) × GoodSlot (rowsAt s) t (s .mask) (s .register) coded)
+    → (readAnswer s t coded source .number ≡ 0) ↔ ((slotNumber s t source coded ≡ 0) × Good (slotShape (rowsAt s)) t (s .mask) (s .register) coded)
 
 -- so for every slot of a frame that is read
 abbrev pub FrameSlotAccepted : Type 0
 FrameSlotAccepted =
-    (p : Plan) (mask start : ℕ) (ts source frame answers : List ℕ) → readFrameNumber p mask start ts (length source) (length frame) (length answers) ≡ 0
+    (p : Plan) (mask start : ℕ) (ts source frame answers stuff : List ℕ) → readFrameNumber p mask start ts (length source) (length frame) (length answers) (length stuff) ≡ 0
     → (k : ℕ) → k < 120
     → (getD (answersOf p ts mask start frame) k 0 ≡ 0)
-    ↔ ((carries p (k + 1) ≡ true) × GoodSlot (rowsOfSlot p (k + 1)) (tableOf p ts (groupAt p (k + 1))) mask (registerBefore p mask start k) (slotIn frame k))
+    ↔ ((carries p (k + 1) ≡ true) × Good (slotShape (rowsOfSlot p (k + 1))) (tableOf p ts (groupAt p (k + 1))) mask (registerBefore p mask start k) (slotIn frame k))
 
 -- and for a TMCC block, which has no stuff bits
 abbrev pub BlockAccepted : Type 0
@@ -105,35 +106,38 @@ BlockAccepted =
     (mask start : ℕ) (t block source : List ℕ)
     → (readNumber mask start t block source ≡ 0) ↔ ((blockLentNumber mask start t source block ≡ 0) × Good blockShape t mask start block)
 
--- "8, 9 and 10 move the slot reader on one place with the register stepped as for a good slot": the state after a slot is
--- the same, whether it was coded, read well, or read with one of the three
+-- "8, 9 .. move the slot reader on one place with the register stepped as for a good slot": the state after a slot is the same,
+-- whether it was coded, read well, or read with one of the two
 abbrev pub SlotMovesOn : Type 0
 SlotMovesOn =
     (s : FrameState) (t source coded other received out : List ℕ)
     → codeAnswer s t source coded .number ≡ 0 → MovesOn (readAnswer s other received out .number)
     → readAnswer s other received out .state ≡ codeAnswer s t source coded .state
 
--- a frame that was coded is read: all header and data octets, and 0 for each data slot
-pub record FrameBack (p : Plan) (mask start : ℕ) (ts source coded out answers : List ℕ) : Type 0 where
-  pub number : readFrameNumber p mask start ts (length out) (length coded) (length answers) ≡ 0
+-- a frame that was coded is read: all header and data octets, and for each data slot 0 and stuff bits of ones
+pub record FrameBack (p : Plan) (mask start : ℕ) (ts source coded out answers stuff : List ℕ) : Type 0 where
+  pub number : readFrameNumber p mask start ts (length out) (length coded) (length answers) (length stuff) ≡ 0
   pub sources : sourcesOf p ts mask start coded out ≡ source
   pub each : (k : ℕ) → k < 120 → getD (answersOf p ts mask start coded) k 0 ≡ pick (carries p (k + 1)) 0 DUMMY
+  pub stuffed : (k : ℕ) → k < 120 → getD (stuffsOf p ts mask start coded) k 0 ≡ pick (carries p (k + 1)) stuffOnes noStuff
 
 abbrev pub FrameCodedThenRead : Type 0
 FrameCodedThenRead =
-    (p : Plan) (mask start : ℕ) (ts source frame out answers : List ℕ) → Octets source → length out ≡ length source → length answers ≡ 120
+    (p : Plan) (mask start : ℕ) (ts source frame out answers stuff : List ℕ) → Octets source → length out ≡ length source → length answers ≡ 120 → length stuff ≡ 120
     → frameNumber p mask start ts (length source) (length frame) ≡ 0
-    → FrameBack p mask start ts source (frameOf p ts mask start source frame) out answers
+    → FrameBack p mask start ts source (frameOf p ts mask start source frame) out answers stuff
 
--- a frame that was read is coded again: every data slot that was accepted returns its octets
+-- a frame that was read is coded again: every data slot that was accepted is that slot again, as document 02, N5, has it
 pub record FrameAgain (p : Plan) (mask start : ℕ) (ts frame sources out : List ℕ) : Type 0 where
   pub number : frameNumber p mask start ts (length sources) (length out) ≡ 0
-  pub slots : (k : ℕ) → k < 120 → carries p (k + 1) ≡ true → getD (answersOf p ts mask start frame) k 0 ≡ 0 → slotIn (frameOf p ts mask start sources out) k ≡ slotIn frame k
+  pub slots : (k : ℕ) → k < 120 → carries p (k + 1) ≡ true → getD (answersOf p ts mask start frame) k 0 ≡ 0
+      → CodedAgain (rowsOfSlot p (k + 1)) (tableOf p ts (groupAt p (k + 1))) mask (registerBefore p mask start k) (getD (stuffsOf p ts mask start frame) k 0)
+      (slotIn frame k) (slotIn (frameOf p ts mask start sources out) k)
 
 abbrev pub FrameReadThenCoded : Type 0
 FrameReadThenCoded =
-    (p : Plan) (mask start : ℕ) (ts frame source answers out : List ℕ) → Octets frame → length out ≡ length frame
-    → readFrameNumber p mask start ts (length source) (length frame) (length answers) ≡ 0
+    (p : Plan) (mask start : ℕ) (ts frame source answers stuff out : List ℕ) → Octets frame → length out ≡ length frame
+    → readFrameNumber p mask start ts (length source) (length frame) (length answers) (length stuff) ≡ 0
     → FrameAgain p mask start ts frame (sourcesOf p ts mask start frame source) out
 
 -- "It starts from plan and settings at slot 1 and equals the slot-by-slot calls": coding, from opening, dummies passed
@@ -157,13 +161,16 @@ pub record ReadBySlots (p : Plan) (mask start : ℕ) (ts source frame : List ℕ
   pub data-slot : (k : ℕ) → k < 120 → carries p (k + 1) ≡ true
       → let s = readTo p mask start ts source frame k in
       (readAnswer s (tableAt s ts) (slotIn frame k) (sourceIn p source k) .number ≡ getD (answersOf p ts mask start frame) k 0)
+      × (readAnswer s (tableAt s ts) (slotIn frame k) (sourceIn p source k) .stuff ≡ getD (stuffsOf p ts mask start frame) k 0)
       × (readArea s (tableAt s ts) (slotIn frame k) (sourceIn p source k) ≡ sourceIn p (sourcesOf p ts mask start frame source) k)
   pub dummy : (k : ℕ) → k < 120 → carries p (k + 1) ≡ false
-      → (passed (readTo p mask start ts source frame k) .number ≡ 0) × (getD (answersOf p ts mask start frame) k 0 ≡ DUMMY)
+      → (passed (readTo p mask start ts source frame k) .number ≡ 0)
+      × (getD (answersOf p ts mask start frame) k 0 ≡ DUMMY)
+      × (getD (stuffsOf p ts mask start frame) k 0 ≡ noStuff)
 
 abbrev pub FrameReadBySlots : Type 0
 FrameReadBySlots =
-    (p : Plan) (mask start : ℕ) (ts source frame answers : List ℕ) → readFrameNumber p mask start ts (length source) (length frame) (length answers) ≡ 0
+    (p : Plan) (mask start : ℕ) (ts source frame answers stuff : List ℕ) → readFrameNumber p mask start ts (length source) (length frame) (length answers) (length stuff) ≡ 0
     → ReadBySlots p mask start ts source frame
 
 -- a TMCC block, there and back

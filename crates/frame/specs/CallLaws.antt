@@ -1,5 +1,5 @@
 -- Laws of the whole-frame calls' numbers: what a number 0 says, and when a number is 0.
-use mathlib.Core.Path.{_≡_, refl, sym, ap, _∙_}
+use mathlib.Core.Path.{_≡_}
 use mathlib.Core.Bool.{Bool, true, _&&_}
 use mathlib.Core.List.{List}
 use Prim.Native.Nat.{ℕ}
@@ -13,7 +13,7 @@ use Rattle.plan.specs.Sizes.{frameOctets}
 use Rattle.plan.specs.declared.Plan.{Plan}
 use Rattle.plan.specs.States.{openNumber}
 use Rattle.frame.specs.Tables.{tablesOk}
-use Rattle.frame.specs.Frames.{sourceFrom, frameNumber, readFrameNumber}
+use Rattle.frame.specs.Frames.{sourceFrom, wholeNumber, frameNumber, readFrameNumber}
 
 -- an accepted plan with its settings and tables, and areas of these lengths
 pub record Lent (p : Plan) (mask start : ℕ) (ts : List ℕ) (source frame : ℕ) : Type 0 where
@@ -30,32 +30,39 @@ tested o l t h =
     (a .0, not-refused l LENGTH (omega arith) (b .0), not-refused t TABLE (omega arith) (b .1))
 
 module _ (p : Plan) (mask start : ℕ) (ts : List ℕ) (source frame : ℕ) where
+  whole-lent : (each : Bool) → wholeNumber p mask start ts source frame each ≡ 0 → (each ≡ true) × Lent p mask start ts source frame
+  unfolding wholeNumber
+  whole-lent each h =
+      let lengths = eqb source (sourceFrom p 120) && eqb frame frameOctets in
+      let a = tested (openNumber p mask start) (each && lengths) (tablesOk p ts) h in
+      let b = and-right each lengths (a .1) in (
+        and-left each lengths (a .1),
+        record {
+          opened = a .0;
+          source-long = eqb-true source (sourceFrom p 120) (and-left (eqb source (sourceFrom p 120)) _ b);
+          frame-long = eqb-true frame frameOctets (and-right (eqb source (sourceFrom p 120)) _ b);
+          tables = a .2;
+        },
+      )
+
+  whole-yes : Lent p mask start ts source frame → wholeNumber p mask start ts source frame true ≡ 0
+  unfolding wholeNumber
+  whole-yes l = rw (l .opened, eq-eqb source (sourceFrom p 120) (l .source-long), eq-eqb frame frameOctets (l .frame-long), l .tables)
+
   pub frame-lent : frameNumber p mask start ts source frame ≡ 0 → Lent p mask start ts source frame
   unfolding frameNumber
-  frame-lent h =
-      let a = tested (openNumber p mask start) (eqb source (sourceFrom p 120) && eqb frame frameOctets) (tablesOk p ts) h in
-      record {
-        opened = a .0;
-        source-long = eqb-true source (sourceFrom p 120) (and-left (eqb source (sourceFrom p 120)) _ (a .1));
-        frame-long = eqb-true frame frameOctets (and-right (eqb source (sourceFrom p 120)) _ (a .1));
-        tables = a .2;
-      }
+  frame-lent h = whole-lent true h .1
 
   pub frame-yes : Lent p mask start ts source frame → frameNumber p mask start ts source frame ≡ 0
   unfolding frameNumber
-  frame-yes l = rw (l .opened, eq-eqb source (sourceFrom p 120) (l .source-long), eq-eqb frame frameOctets (l .frame-long), l .tables)
+  frame-yes = whole-yes
 
-  -- coding is tested as reading is, with the answers left out
-  pub read-frame : readFrameNumber p mask start ts source frame 120 ≡ frameNumber p mask start ts source frame
-  unfolding readFrameNumber frameNumber
-  read-frame = refl
-
-  pub read-lent : (answers : ℕ) → readFrameNumber p mask start ts source frame answers ≡ 0 → (answers ≡ 120) × Lent p mask start ts source frame
+  pub read-lent : (answers stuff : ℕ) → readFrameNumber p mask start ts source frame answers stuff ≡ 0 → (answers ≡ 120) × (stuff ≡ 120) × Lent p mask start ts source frame
   unfolding readFrameNumber
-  read-lent answers h =
-      let a = tested (openNumber p mask start) (eqb answers 120 && (eqb source (sourceFrom p 120) && eqb frame frameOctets)) (tablesOk p ts) h in
-      let e : answers ≡ 120 = eqb-true answers 120 (and-left (eqb answers 120) _ (a .1)) in
-      (e, frame-lent (sym read-frame ∙ ap (readFrameNumber p mask start ts source frame) (sym e) ∙ h))
+  read-lent answers stuff h =
+      let a = whole-lent (eqb answers 120 && eqb stuff 120) h in
+      (eqb-true answers 120 (and-left (eqb answers 120) _ (a .0)), eqb-true stuff 120 (and-right (eqb answers 120) _ (a .0)), a .1)
 
-  pub read-yes : (answers : ℕ) → answers ≡ 120 → Lent p mask start ts source frame → readFrameNumber p mask start ts source frame answers ≡ 0
-  read-yes answers e l = ap (readFrameNumber p mask start ts source frame) e ∙ read-frame ∙ frame-yes l
+  pub read-yes : (answers stuff : ℕ) → answers ≡ 120 → stuff ≡ 120 → Lent p mask start ts source frame → readFrameNumber p mask start ts source frame answers stuff ≡ 0
+  unfolding readFrameNumber
+  read-yes answers stuff e d l = rw (eq-eqb answers 120 e, eq-eqb stuff 120 d) (whole-yes l)

@@ -29,9 +29,9 @@ use Rattle.slot.specs.Calls.{rowsAt}
 use Rattle.slot.specs.CallLaws.{rows-known}
 use Rattle.frame.specs.Tables.{tablesOk}
 use Rattle.frame.specs.TableLaws.{table-ok}
-use Rattle.frame.specs.Steps.{tableAt, codedAt, answerAt, readAt, stateAfter}
+use Rattle.frame.specs.Steps.{tableAt, codedAt, answerAt, stuffAt, readAt, stateAfter}
 use Rattle.frame.specs.StepLaws.{length-coded, length-read}
-use Rattle.frame.specs.Frames.{rowsOfSlot, registerBefore, stateBefore, slotIn, octetsOfSlot, sourceFrom, sourceIn, frameOf, answersOf, sourcesOf}
+use Rattle.frame.specs.Frames.{rowsOfSlot, registerBefore, stateBefore, slotIn, octetsOfSlot, sourceFrom, sourceIn, frameOf, answersOf, stuffsOf, sourcesOf}
 
 module _ (p : Plan) where
   pub sourceFrom-none : sourceFrom p 0 ≡ 0
@@ -154,6 +154,16 @@ pub answer-at : (p : Plan) (ts : List ℕ) (mask start : ℕ) (frame : List ℕ)
     → getD (answersOf p ts mask start frame) k 0 ≡ answerAt (stateBefore p mask start k) ts (slotIn frame k)
 unfolding answersOf
 answer-at p ts mask start frame k h = getD-table 120 (λ i. answerAt (stateBefore p mask start i) ts (slotIn frame i)) k h
+
+-- and its stuff bits
+pub length-stuffsOf : (p : Plan) (ts : List ℕ) (mask start : ℕ) (frame : List ℕ) → length (stuffsOf p ts mask start frame) ≡ 120
+unfolding stuffsOf
+length-stuffsOf p ts mask start frame = length-table 120 (λ k. stuffAt (stateBefore p mask start k) ts (slotIn frame k))
+
+pub stuff-at : (p : Plan) (ts : List ℕ) (mask start : ℕ) (frame : List ℕ) (k : ℕ) → k < 120
+    → getD (stuffsOf p ts mask start frame) k 0 ≡ stuffAt (stateBefore p mask start k) ts (slotIn frame k)
+unfolding stuffsOf
+stuff-at p ts mask start frame k h = getD-table 120 (λ i. stuffAt (stateBefore p mask start i) ts (slotIn frame i)) k h
 
 module _ (p : Plan) (ts : List ℕ) (mask start : ℕ) (frame found : List ℕ) (l : length found ≡ sourceFrom p 120) where
   sources : ℕ → List ℕ

@@ -1,6 +1,6 @@
 -- A whole frame, coded and read (document 01, "Plan and place" and "Refusal list"): the plan p, the settings, the groups'
 -- tables ts. Slots are counted from 0 here: slot k + 1 stands behind k others.
-use mathlib.Core.Bool.{_&&_}
+use mathlib.Core.Bool.{Bool, true, _&&_}
 use mathlib.Core.List.{List}
 use Prim.Native.Nat.{ℕ, zero, suc, _+_, _*_}
 use lib.Dec.{eqb}
@@ -18,7 +18,7 @@ use Rattle.plan.specs.Places.{groupAt, carries}
 use Rattle.plan.specs.States.{openNumber}
 use Rattle.slot.specs.Slots.{sourceOctets, registerAfter}
 use Rattle.frame.specs.Tables.{tablesOk}
-use Rattle.frame.specs.Steps.{codedAt, answerAt, readAt}
+use Rattle.frame.specs.Steps.{codedAt, answerAt, stuffAt, readAt}
 
 -- the rows of slot s's parity table
 abbrev pub rowsOfSlot : Plan → ℕ → ℕ
@@ -58,21 +58,28 @@ frameOf p ts mask start source found =
 unfoldable pub answersOf : Plan → List ℕ → ℕ → ℕ → List ℕ → List ℕ
 answersOf p ts mask start frame = table 120 (λ k. answerAt (stateBefore p mask start k) ts (slotIn frame k))
 
+-- "a whole-frame read puts them in 120 further octets" (document 02, N5): the stuff bits of each slot
+unfoldable pub stuffsOf : Plan → List ℕ → ℕ → ℕ → List ℕ → List ℕ
+stuffsOf p ts mask start frame = table 120 (λ k. stuffAt (stateBefore p mask start k) ts (slotIn frame k))
+
 -- all header and data octets of a received frame, in an area with what was found in it
 unfoldable pub sourcesOf : Plan → List ℕ → ℕ → ℕ → List ℕ → List ℕ → List ℕ
 sourcesOf p ts mask start frame found =
     joined 120 (λ k. readAt (stateBefore p mask start k) ts (slotIn frame k) (sourceIn p found k))
 
--- "Whole frame: 1, 6, 4, 5", 1 and 6 as in opening, with the lengths of the two areas
-unfoldable pub frameNumber : Plan → ℕ → ℕ → List ℕ → ℕ → ℕ → ℕ
-frameNumber p mask start ts source frame =
+-- "Whole frame: 1, 6, 4, 5", 1 and 6 as in opening, with the lengths of the two areas, and whether the areas that have an entry
+-- for each slot are of 120
+unfoldable pub wholeNumber : Plan → ℕ → ℕ → List ℕ → ℕ → ℕ → Bool → ℕ
+wholeNumber p mask start ts source frame each =
     andThen (openNumber p mask start)
-    (andThen (pick (eqb source (sourceFrom p 120) && eqb frame frameOctets) 0 LENGTH)
+    (andThen (pick (each && (eqb source (sourceFrom p 120) && eqb frame frameOctets)) 0 LENGTH)
     (pick (tablesOk p ts) 0 TABLE))
 
--- and in reading with that of the answers
-unfoldable pub readFrameNumber : Plan → ℕ → ℕ → List ℕ → ℕ → ℕ → ℕ → ℕ
-readFrameNumber p mask start ts source frame answers =
-    andThen (openNumber p mask start)
-    (andThen (pick (eqb answers 120 && (eqb source (sourceFrom p 120) && eqb frame frameOctets)) 0 LENGTH)
-    (pick (tablesOk p ts) 0 TABLE))
+-- coding has none of these
+unfoldable pub frameNumber : Plan → ℕ → ℕ → List ℕ → ℕ → ℕ → ℕ
+frameNumber p mask start ts source frame = wholeNumber p mask start ts source frame true
+
+-- reading has the answers and the stuff bits
+unfoldable pub readFrameNumber : Plan → ℕ → ℕ → List ℕ → ℕ → ℕ → ℕ → ℕ → ℕ
+readFrameNumber p mask start ts source frame answers stuff =
+    wholeNumber p mask start ts source frame (eqb answers 120 && eqb stuff 120)

@@ -14,10 +14,10 @@ use Rattle.plan.specs.Places.{carries}
 use Rattle.plan.specs.States.{movedOn}
 use Rattle.slot.specs.Slots.{sourceOctets, slotOf}
 use Rattle.slot.specs.SlotLaws.{length-slotOf}
-use Rattle.slot.specs.Reading.{receivedNumber, sourceOf}
+use Rattle.slot.specs.Reading.{receivedNumber, noStuff, sourceOf}
 use Rattle.slot.specs.ReadingLaws.{sourceOf-source}
 use Rattle.slot.specs.Calls.{rowsAt, nextState}
-use Rattle.frame.specs.Steps.{tableAt, codedAt, answerAt, readAt, stateAfter}
+use Rattle.frame.specs.Steps.{tableAt, codedAt, answerAt, stuffAt, readAt, stateAfter}
 
 module _ (s : FrameState) (ts : List ℕ) where
   -- a data slot
@@ -43,6 +43,10 @@ module _ (s : FrameState) (ts : List ℕ) where
     pub answer-dummy : (received : List ℕ) → answerAt s ts received ≡ DUMMY
     unfolding answerAt
     answer-dummy received = rw c
+
+    pub stuff-dummy : (received : List ℕ) → stuffAt s ts received ≡ noStuff
+    unfolding stuffAt
+    stuff-dummy received = rw (answer-dummy received)
 
     pub read-dummy : (received found : List ℕ) → readAt s ts received found ≡ found
     unfolding readAt

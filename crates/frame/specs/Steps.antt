@@ -10,7 +10,7 @@ use Rattle.plan.specs.declared.FrameState.{FrameState}
 use Rattle.plan.specs.Places.{groupAt, carries}
 use Rattle.plan.specs.States.{movedOn}
 use Rattle.slot.specs.Slots.{slotOf}
-use Rattle.slot.specs.Reading.{receivedNumber, sourceOf}
+use Rattle.slot.specs.Reading.{receivedNumber, stuffIn, stuffWith, sourceOf}
 use Rattle.slot.specs.Calls.{rowsAt, nextState}
 use Rattle.frame.specs.Tables.{tableOf}
 
@@ -22,11 +22,15 @@ tableAt s ts = tableOf (planIn s) ts (groupAt (planIn s) (s .slot))
 unfoldable pub codedAt : FrameState → List ℕ → List ℕ → List ℕ → List ℕ
 codedAt s ts source found = pick (carries (planIn s) (s .slot)) (slotOf (rowsAt s) (tableAt s ts) (s .mask) (s .register) source) found
 
--- its answer octet: "0, 2 for a dummy, or 8, 9, 10"
+-- its answer octet: "0, 2 for a dummy, or 8, 9"
 unfoldable pub answerAt : FrameState → List ℕ → List ℕ → ℕ
 answerAt s ts received = pick (carries (planIn s) (s .slot)) (receivedNumber (rowsAt s) (tableAt s ts) (s .mask) (s .register) received) DUMMY
 
--- its header and data octets as read; with 8, 9 or 10 they "stay untouched", and a dummy has none
+-- its stuff bits, "255 where the slot's answer isn't 0" (document 02, N5)
+unfoldable pub stuffAt : FrameState → List ℕ → List ℕ → ℕ
+stuffAt s ts received = stuffWith (answerAt s ts received) (stuffIn (rowsAt s) (s .mask) (s .register) received)
+
+-- its header and data octets as read; with 8 or 9 they "stay untouched", and a dummy has none
 unfoldable pub readAt : FrameState → List ℕ → List ℕ → List ℕ → List ℕ
 readAt s ts received found = pick (eqb (answerAt s ts received) 0) (sourceOf (rowsAt s) (s .mask) (s .register) received) found
 

@@ -81,7 +81,7 @@ pub fn code_frame(
         tables,
         source.len(),
         frame.len(),
-        frame::SLOTS,
+        true,
         &mut ends,
     );
     if number != 0 {

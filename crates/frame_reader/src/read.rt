@@ -1,25 +1,26 @@
 // The slots of a frame, read one behind the other from one area.
 ghost use mathlib.Core.Path.{_≡_};
+ghost use mathlib.Core.Bool.{_&&_};
 ghost use lib.Dec.{eqb};
 ghost use lib.ListN.{length};
 ghost use Rattle.lists.specs.Choice.{pick};
-ghost use Rattle.frame.specs.Steps.{answerAt, readAt, stateAfter};
-ghost use Rattle.frame.specs.Frames.{answersOf, sourcesOf, readFrameNumber};
+ghost use Rattle.frame.specs.Steps.{answerAt, stuffAt, readAt, stateAfter};
+ghost use Rattle.frame.specs.Frames.{answersOf, stuffsOf, sourcesOf, readFrameNumber};
 ghost use Rattle.frame_reader.specs.Needs.{Reading, Answering};
-use plan::Answer;
 use plan::FrameState;
 use plan::Plan;
+use slot::SlotRead;
 
-// Reads the state's next slot, or passes it where it is a dummy: its answer and the state after it.
+// Reads the state's next slot, or passes it where it is a dummy: its answer, the state after it, and its stuff bits.
 fn read_place(
     state: FrameState,
     tables: &[u16],
     ends: &[usize],
     received: &[u8],
     source: &mut [u8],
-) -> Answer
+) -> SlotRead
     requires { ⌜ Reading state (now tables) (now ends) (now received) (now source) ⌝ }
-    ensures { λ r. ⌜ (r .number ≡ answerAt state (now (tables .entry)) (now (received .entry))) × (r .state ≡ stateAfter state) ⌝ }
+    ensures { λ r. ⌜ (r .number ≡ answerAt state (now (tables .entry)) (now (received .entry))) × (r .state ≡ stateAfter state) × (r .stuff ≡ stuffAt state (now (tables .entry)) (now (received .entry))) ⌝ }
     ensures { λ _. ⌜ now (source .exit) ≡ readAt state (now (tables .entry)) (now (received .entry)) (now (source .entry)) ⌝ }
 {
     let place = plan::next_place(state);
@@ -31,9 +32,10 @@ fn read_place(
     }
     let passed = plan::pass(state);
     let next = passed.state;
-    Answer {
+    SlotRead {
         number: refusal::DUMMY,
         state: next,
+        stuff: slot::NO_STUFF,
     }
 }
 
@@ -47,10 +49,12 @@ fn read_slots(
     frame: &[u8],
     source: &mut [u8],
     answers: &mut [u8],
+    stuff: &mut [u8],
 )
-    requires { ⌜ Answering plan mask start (now tables) (now ends) (now source) (now frame) (now answers) ⌝ }
+    requires { ⌜ Answering plan mask start (now tables) (now ends) (now source) (now frame) (now answers) (now stuff) ⌝ }
     ensures { λ _. ⌜ now (source .exit) ≡ sourcesOf plan (now (tables .entry)) mask start (now (frame .entry)) (now (source .entry)) ⌝ }
     ensures { λ _. ⌜ now (answers .exit) ≡ answersOf plan (now (tables .entry)) mask start (now (frame .entry)) ⌝ }
+    ensures { λ _. ⌜ now (stuff .exit) ≡ stuffsOf plan (now (tables .entry)) mask start (now (frame .entry)) ⌝ }
 {
     let opened = plan::open(plan, mask, start);
     let mut state = opened.state;
@@ -61,16 +65,27 @@ fn read_slots(
         let at = plan::SLOT_OCTETS * k;
         let end = plan::SLOT_OCTETS * next;
         let to = from + frame::slot_octets(plan, next);
-        let answer = read_place(state, tables, ends, &frame[at..end], &mut source[from..to]);
-        answers[k] = answer.number;
-        state = answer.state;
+        let read = read_place(state, tables, ends, &frame[at..end], &mut source[from..to]);
+        answers[k] = read.number;
+        stuff[k] = read.stuff;
+        state = read.state;
         from = to;
         k = next;
     }
 }
 
-// Reads a whole frame: all header and data octets, and an answer octet for each slot. What is read badly leaves its
-// header and data places as found; a refusal leaves both areas as found.
+// Whether the areas that have an octet for each slot have their length.
+fn each_slot(answers: usize, stuff: usize) -> bool
+    ensures { λ r. ⌜ r ≡ (eqb answers 120 && eqb stuff 120) ⌝ }
+{
+    if answers != frame::SLOTS {
+        return false;
+    }
+    stuff == frame::SLOTS
+}
+
+// Reads a whole frame: all header and data octets, and for each slot an answer octet and one with its stuff bits. What is
+// read badly leaves its header and data places as found; a refusal leaves all areas as found.
 pub fn read_frame(
     plan: Plan,
     mask: u32,
@@ -79,11 +94,14 @@ pub fn read_frame(
     frame: &[u8],
     source: &mut [u8],
     answers: &mut [u8],
+    stuff: &mut [u8],
 ) -> u8
-    ensures { λ r. ⌜ r ≡ readFrameNumber plan mask start (now (tables .entry)) (length (now (source .entry))) (length (now (frame .entry))) (length (now (answers .entry))) ⌝ }
+    ensures { λ r. ⌜ r ≡ readFrameNumber plan mask start (now (tables .entry)) (length (now (source .entry))) (length (now (frame .entry))) (length (now (answers .entry))) (length (now (stuff .entry))) ⌝ }
     ensures { λ r. ⌜ now (source .exit) ≡ pick (eqb r 0) (sourcesOf plan (now (tables .entry)) mask start (now (frame .entry)) (now (source .entry))) (now (source .entry)) ⌝ }
     ensures { λ r. ⌜ now (answers .exit) ≡ pick (eqb r 0) (answersOf plan (now (tables .entry)) mask start (now (frame .entry))) (now (answers .entry)) ⌝ }
+    ensures { λ r. ⌜ now (stuff .exit) ≡ pick (eqb r 0) (stuffsOf plan (now (tables .entry)) mask start (now (frame .entry))) (now (stuff .entry)) ⌝ }
 {
+    let each = each_slot(answers.len(), stuff.len());
     let mut ends = [0usize; 9];
     let number = frame::frame_number(
         plan,
@@ -92,12 +110,22 @@ pub fn read_frame(
         tables,
         source.len(),
         frame.len(),
-        answers.len(),
+        each,
         &mut ends,
     );
     if number != 0 {
         return number;
     }
-    read_slots(plan, mask, start, tables, &ends, frame, source, answers);
+    read_slots(
+        plan,
+        mask,
+        start,
+        tables,
+        &ends,
+        frame,
+        source,
+        answers,
+        stuff,
+    );
     0
 }

@@ -5,6 +5,7 @@ use Prim.Native.Nat.{ℕ, _<_}
 use native.Mathlib.Decide.{ℕ-discrete}
 use native.Mathlib.Omega.{arith}
 use borrow.Author.Tests.{eq-eqb, ne-eqb}
+use lib.Dec.{eqb}
 use Rattle.lists.specs.Choice.{pick, andThen}
 
 pub and-left : (a b : Bool) → (a && b) ≡ true → a ≡ true
@@ -44,6 +45,14 @@ same-test false false f g = refl
 pub pick-same : {A : Type 0} (t : Bool) (a : A) → pick t a a ≡ a
 pick-same true a = refl
 pick-same false a = refl
+
+-- what holds of both holds of the one that is chosen, and of the number that answers
+pub pick-each : {A : Type 0} (P : A → Type 0) (t : Bool) {a b : A} → P a → P b → P (pick t a b)
+pick-each P true p q = p
+pick-each P false p q = q
+
+pub then-each : (P : ℕ → Type 0) {a b : ℕ} → P a → P b → P (andThen a b)
+then-each P {a} p q = pick-each P (eqb a 0) q p
 
 -- where the answer is 0, a test whose failure is refused held, whatever the refusal's number
 pub not-refused : (t : Bool) (n : ℕ) → 0 < n → pick t 0 n ≡ 0 → t ≡ true

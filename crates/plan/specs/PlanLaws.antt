@@ -1,14 +1,14 @@
 -- Laws of plans: what an accepted plan has.
 use mathlib.Core.Path.{_≡_}
-use mathlib.Core.Bool.{Bool, true, false}
+use mathlib.Core.Bool.{true, false}
 use mathlib.Core.Logic.{_↔_}
 use Prim.Native.Nat.{ℕ, _+_, _-_, _%_, _≤_, _<_}
 use native.Mathlib.Nat.{mul-le-mul-left}
 use native.Mathlib.Omega.{arith}
 use borrow.Author.Tests.{leb-true, eqb-true}
-use lib.Dec.{leb, eqb}
-use Rattle.lists.specs.Choice.{pick, andThen}
-use Rattle.lists.specs.ChoiceLaws.{and-left, and-right, then-zero, not-refused}
+use lib.Dec.{leb}
+use Rattle.lists.specs.Choice.{pick}
+use Rattle.lists.specs.ChoiceLaws.{and-left, and-right, pick-each, then-each, then-zero, not-refused}
 use Rattle.refusal.specs.Numbers.{PLAN, VALUE, ORDER, TOTAL}
 use Rattle.lists.specs.CountLaws.{sum-none, sum-more, sum-mono, sum-same, every-at, every-same}
 use Rattle.plan.specs.declared.Plan.{Plan}
@@ -112,14 +112,10 @@ module _ (p q : Plan) (count : p .count ≡ q .count) (modulation : (g : ℕ) �
 -- what holds of 0 and of the four refusals holds of every plan's number
 pub plan-each : (P : ℕ → Type 0) → P 0 → P PLAN → P VALUE → P ORDER → P TOTAL → (p : Plan) → P (planNumber p)
 unfolding planNumber
-plan-each P z g v o t p = before (groupsOk p) g (before (allValuesOk p) v (before (allFall p) o (either (totalOk p) z t)))
-  where
-    either : (b : Bool) {m n : ℕ} → P m → P n → P (pick b m n)
-    either true h k = h
-    either false h k = k
-
-    before : (b : Bool) {m n : ℕ} → P n → P m → P (andThen (pick b 0 n) m)
-    before b {m} {n} h k = either (eqb (pick b 0 n) 0) k (either b z h)
+plan-each P z g v o t p =
+    then-each P (pick-each P (groupsOk p) z g)
+    (then-each P (pick-each P (allValuesOk p) z v)
+    (then-each P (pick-each P (allFall p) z o) (pick-each P (totalOk p) z t)))
 
 -- the values of a group that is accepted
 pub record Values (m r n : ℕ) : Type 0 where

@@ -1,4 +1,5 @@
--- Document 01, "Refusal list", as document 02 amends it: the number of each word. 0 is accepted.
+-- Document 01, "Refusal list", as document 02 amends it: the number of each word. 0 is accepted, and "Number 10 never occurs
+-- again" (02, N5).
 use Prim.Native.Nat.{ℕ}
 
 -- 02, N1: "a wrong number of groups, slot number 0 or unreadable text, and in lone calls"; there, "modulation or rate unknown"
@@ -36,10 +37,6 @@ PARITY = 8
 -- "BCH bits wrong after dispersal is taken off"
 abbrev pub BCH : ℕ
 BCH = 9
-
--- "stuff bits not all ones after dispersal is taken off"
-abbrev pub STUFF : ℕ
-STUFF = 10
 
 -- "one of the last two TMCC bits is 1"
 abbrev pub TAIL : ℕ

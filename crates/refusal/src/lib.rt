@@ -17,8 +17,6 @@ pub const PARITY: u8 = 8;
 
 pub const BCH: u8 = 9;
 
-pub const STUFF: u8 = 10;
-
 pub const TAIL: u8 = 11;
 
 pub const LABEL: u8 = 12;

@@ -34,8 +34,8 @@ pub extern "C" fn s3_code_slot(
     )
 }
 
-// Reads the next slot into header and data octets; a refusal leaves them as they were, and `next` too unless the slot
-// itself was refused.
+// Reads the next slot into header and data octets, and puts its stuff bits into `report`; a refusal leaves the octets as they
+// were, and `next` too unless the slot itself was refused.
 #[no_mangle]
 pub extern "C" fn s3_read_slot(
     plan: &[u8],
@@ -46,9 +46,10 @@ pub extern "C" fn s3_read_slot(
     table: &[u16],
     coded: &[u8],
     source: &mut [u8],
+    report: &mut [u16],
     next: &mut [u32],
 ) -> u32
-    ensures { λ r. ⌜ Received (stateAt (planOf (now (plan .entry))) mask start slot register) (now (table .entry)) (now (coded .entry)) (now (source .entry)) (now (next .entry)) r (now (source .exit)) (now (next .exit)) ⌝ }
+    ensures { λ r. ⌜ Received (stateAt (planOf (now (plan .entry))) mask start slot register) (now (table .entry)) (now (coded .entry)) (now (source .entry)) (now (report .entry)) (now (next .entry)) r (now (source .exit)) (now (report .exit)) (now (next .exit)) ⌝ }
 {
     c_slots::read_slot(
         plan,
@@ -59,6 +60,7 @@ pub extern "C" fn s3_read_slot(
         table,
         coded,
         source,
+        report,
         next,
     )
 }
@@ -93,8 +95,8 @@ pub extern "C" fn s3_code_packets(
     )
 }
 
-// Reads the next slot into its header and packets; a refusal leaves them as they were, and `next` too unless the slot
-// itself was refused.
+// Reads the next slot into its header and packets, and puts its stuff bits into `report`; a refusal leaves header and packets
+// as they were, and `next` too unless the slot itself was refused.
 #[no_mangle]
 pub extern "C" fn s3_read_packets(
     plan: &[u8],
@@ -106,9 +108,10 @@ pub extern "C" fn s3_read_packets(
     coded: &[u8],
     header: &mut [u8],
     packets: &mut [u8],
+    report: &mut [u16],
     next: &mut [u32],
 ) -> u32
-    ensures { λ r. ⌜ ReceivedPackets (stateAt (planOf (now (plan .entry))) mask start slot register) (now (table .entry)) (now (coded .entry)) (now (header .entry)) (now (packets .entry)) (now (next .entry)) r (now (header .exit)) (now (packets .exit)) (now (next .exit)) ⌝ }
+    ensures { λ r. ⌜ ReceivedPackets (stateAt (planOf (now (plan .entry))) mask start slot register) (now (table .entry)) (now (coded .entry)) (now (header .entry)) (now (packets .entry)) (now (report .entry)) (now (next .entry)) r (now (header .exit)) (now (packets .exit)) (now (report .exit)) (now (next .exit)) ⌝ }
 {
     c_slots::read_packets(
         plan,
@@ -120,6 +123,7 @@ pub extern "C" fn s3_read_packets(
         coded,
         header,
         packets,
+        report,
         next,
     )
 }

@@ -1,6 +1,7 @@
 -- The calls on a slot (document 01, "Refusal list"): their numbers, states and areas.
 use mathlib.Core.Path.{_≡_}
 use mathlib.Core.List.{List}
+use mathlib.Core.Logic.{_↔_}
 use Prim.Native.Nat.{ℕ}
 use lib.Dec.{eqb}
 use lib.ListN.{length}
@@ -17,7 +18,8 @@ use Rattle.plan.specs.Places.{groupAt, carries}
 use Rattle.plan.specs.States.{movedOn, answer, stateNumber}
 use Rattle.codeword.specs.Calls.{lentNumber as wordLentNumber}
 use Rattle.slot.specs.Slots.{sourceOctets, slotShape, slotOf, registerAfter}
-use Rattle.slot.specs.Reading.{receivedNumber, sourceOf, checkedNumber}
+use Rattle.slot.specs.declared.SlotRead.{SlotRead}
+use Rattle.slot.specs.Reading.{receivedNumber, stuffIn, stuffWith, stuffOnes, withOnes, sourceOf, checkedNumber}
 
 -- the rows of the parity table at the place of the state's next slot
 unfoldable pub rowsAt : FrameState → ℕ
@@ -46,15 +48,20 @@ unfoldable pub codeArea : FrameState → List ℕ → List ℕ → List ℕ → 
 codeArea s t source coded =
     pick (eqb (slotNumber s t source coded) 0) (slotOf (rowsAt s) t (s .mask) (s .register) source) coded
 
--- ", and in reading 8, 9, 10"
+-- ", and in reading 8, 9"
 unfoldable pub readNumber : FrameState → List ℕ → List ℕ → List ℕ → ℕ
 readNumber s t coded source =
     andThen (slotNumber s t source coded) (receivedNumber (rowsAt s) t (s .mask) (s .register) coded)
 
--- reading a slot: "8, 9 and 10 move the slot reader on one place with the register stepped as for a good slot"
-unfoldable pub readAnswer : FrameState → List ℕ → List ℕ → List ℕ → Answer
+-- reading a slot: "8, 9 .. move the slot reader on one place with the register stepped as for a good slot"; with its stuff bits
+-- (document 02, N5)
+unfoldable pub readAnswer : FrameState → List ℕ → List ℕ → List ℕ → SlotRead
 readAnswer s t coded source =
-    record { number = readNumber s t coded source; state = pick (eqb (slotNumber s t source coded) 0) (nextState s) s }
+    record {
+      number = readNumber s t coded source;
+      state = pick (eqb (slotNumber s t source coded) 0) (nextState s) s;
+      stuff = stuffWith (readNumber s t coded source) (stuffIn (rowsAt s) (s .mask) (s .register) coded);
+    }
 
 unfoldable pub readArea : FrameState → List ℕ → List ℕ → List ℕ → List ℕ
 readArea s t coded source =
@@ -71,8 +78,21 @@ formNumber rate t coded =
 unfoldable pub checkNumber : ℕ → List ℕ → List ℕ → ℕ
 checkNumber rate t coded = andThen (formNumber rate t coded) (checkedNumber (rowsOf rate) t coded)
 
--- that a call answers 0 with this state, and leaves these octets in its area
-pub record Answers (a : Answer) (area : List ℕ) (next : FrameState) (octets : List ℕ) : Type 0 where
+-- that a reading answers 0 with this state and these stuff bits, and leaves these octets in its area
+pub record Reads (a : SlotRead) (area : List ℕ) (next : FrameState) (stuff : ℕ) (octets : List ℕ) : Type 0 where
   pub number : a .number ≡ 0
   pub state : a .state ≡ next
+  pub stuff-is : a .stuff ≡ stuff
   pub octets-are : area ≡ octets
+
+-- that d is the slot c again, coded back from what was read of it with these stuff bits: "the same slot only where that number is
+-- 63", and in every case "the slot with ones there and its parity made anew"
+pub record CodedAgain (R : ℕ) (t : List ℕ) (mask r stuff : ℕ) (c d : List ℕ) : Type 0 where
+  pub same : (d ≡ c) ↔ (stuff ≡ stuffOnes)
+  pub anew : d ≡ withOnes R t mask r c
+
+-- that the coding call which codes back what was read of the slot c answers 0 with the reading's state, and leaves c again
+pub record CodedBack (s : FrameState) (t : List ℕ) (read : SlotRead) (a : Answer) (c area : List ℕ) : Type 0 where
+  pub number : a .number ≡ 0
+  pub state : a .state ≡ read .state
+  pub slot : CodedAgain (rowsAt s) t (s .mask) (s .register) (read .stuff) c area

@@ -1,16 +1,15 @@
--- A received slot, read (document 01, "Refusal list"): 8, 9 and 10 in this order.
+-- A received slot, read (document 01, "Refusal list", as document 02, N5, amends it): 8 and 9 in this order, and the stuff bits.
 use mathlib.Core.Path.{_≡_}
-use mathlib.Core.Bool.{Bool}
 use mathlib.Core.List.{List}
 use mathlib.Core.Logic.{_⊎_}
 use Prim.Native.Nat.{ℕ}
 use lib.Dec.{eqb}
 use lib.ListN.{take, drop}
-use Rattle.lists.specs.Choice.{pick, andThen}
-use Rattle.refusal.specs.Numbers.{PARITY, BCH, STUFF}
+use Rattle.lists.specs.Choice.{pick}
+use Rattle.refusal.specs.Numbers.{PARITY, BCH}
 use Rattle.bits.specs.Digits.{number}
 use Rattle.bits.specs.Octets.{bitsOf, octetsOf}
-use Rattle.codeword.specs.Reading.{takenOff, messageIn, tailIn, wrongPosition, parityNumber, wordNumber, Good}
+use Rattle.codeword.specs.Reading.{takenOff, messageIn, tailIn, wrongPosition, parityNumber, wordNumber, withTail}
 use Rattle.slot.specs.Slots.{sourceOctets, coveredBits, stuffBits, slotShape}
 
 -- "The bits before the parity are the first 374 × R of a slot, as sent", and "the last M bits"
@@ -20,20 +19,29 @@ covered R c = take (coveredBits R) (bitsOf c)
 abbrev pub parity : ℕ → List ℕ → List ℕ
 parity R c = drop (coveredBits R) (bitsOf c)
 
--- 10: "stuff bits not all ones after dispersal is taken off", the six as a number
-unfoldable pub stuffRight : ℕ → List ℕ → Bool
-stuffRight R u = eqb (number 6 (tailIn (slotShape R) u)) 63
-
--- 8 and 9 are a codeword's
+-- 8 and 9 are a codeword's, and document 02, N5, has no 10: "The reader accepts any six stuff bits .."
 unfoldable pub receivedNumber : ℕ → List ℕ → ℕ → ℕ → List ℕ → ℕ
-receivedNumber R t mask r c =
-    andThen (wordNumber (slotShape R) t mask r c) (pick (stuffRight R (takenOff (slotShape R) mask r c)) 0 STUFF)
+receivedNumber R t mask r c = wordNumber (slotShape R) t mask r c
 
--- a slot that has none of 8, 9 and 10, "stuff bits not all ones after dispersal is taken off": parity and BCH bits are right as
--- a codeword's, and the stuff bits are ones
-pub record GoodSlot (R : ℕ) (t : List ℕ) (mask r : ℕ) (c : List ℕ) : Type 0 where
-  pub word : Good (slotShape R) t mask r c
-  pub stuff : tailIn (slotShape R) (takenOff (slotShape R) mask r c) ≡ stuffBits
+-- ".. and returns them as a number from 0 to 63, first bit the highest"
+unfoldable pub stuffIn : ℕ → ℕ → ℕ → List ℕ → ℕ
+stuffIn R mask r c = number 6 (tailIn (slotShape R) (takenOff (slotShape R) mask r c))
+
+-- "(255 with a refusal)"
+abbrev pub noStuff : ℕ
+noStuff = 255
+
+-- beside a reading's number n, stuff bits x
+abbrev pub stuffWith : ℕ → ℕ → ℕ
+stuffWith n x = pick (eqb n 0) x noStuff
+
+-- six ones: "the same slot only where that number is 63"
+abbrev pub stuffOnes : ℕ
+stuffOnes = 63
+
+-- "for other numbers it gives the slot with ones there and its parity made anew"
+abbrev pub withOnes : ℕ → List ℕ → ℕ → ℕ → List ℕ → List ℕ
+withOnes R t mask r c = withTail (slotShape R) t mask r c stuffBits
 
 -- header and data octets of a received slot
 unfoldable pub sourceOf : ℕ → ℕ → ℕ → List ℕ → List ℕ
@@ -43,6 +51,6 @@ sourceOf R mask r c = octetsOf (sourceOctets R) (messageIn (slotShape R) (takenO
 unfoldable pub checkedNumber : ℕ → List ℕ → List ℕ → ℕ
 checkedNumber R t c = parityNumber (slotShape R) (wrongPosition (slotShape R) t c)
 
--- the numbers with which a reading moves on: 0, and "8, 9 and 10 move the slot reader on one place"
+-- the numbers with which a reading moves on: 0, and "8, 9 .. move the slot reader on one place"
 abbrev pub MovesOn : ℕ → Type 0
-MovesOn n = (n ≡ 0) ⊎ (n ≡ PARITY) ⊎ (n ≡ BCH) ⊎ (n ≡ STUFF)
+MovesOn n = (n ≡ 0) ⊎ (n ≡ PARITY) ⊎ (n ≡ BCH)

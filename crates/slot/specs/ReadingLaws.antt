@@ -1,31 +1,27 @@
--- Laws of a received slot: what its stuff bits say, and the numbers that reading answers, 0 exactly when all three checks
--- hold.
+-- Laws of a received slot: what its stuff bits say, and the numbers that reading answers, 0 exactly when both checks hold.
 use mathlib.Core.Path.{_≡_, refl, sym, ap, _∙_}
 use mathlib.Core.Bool.{Bool, true, false}
 use mathlib.Core.List.{List}
 use mathlib.Core.Logic.{_↔_, inl, inr}
-use Prim.Native.Nat.{ℕ}
+use Prim.Native.Nat.{ℕ, _<_}
 use native.Mathlib.Omega.{arith}
-use borrow.Author.Tests.{eqb-true, eq-eqb}
 use lib.Dec.{eqb}
-use lib.ListN.{length, take}
+use lib.ListN.{length}
 use lib.Seq.{take-all}
 use Rattle.lists.specs.Choice.{pick, andThen}
-use Rattle.lists.specs.ChoiceLaws.{then-zero, then-both, not-refused}
-use Rattle.lists.specs.Runs.{Bits}
-use Rattle.refusal.specs.Numbers.{PARITY, BCH, STUFF}
+use Rattle.refusal.specs.Numbers.{PARITY, BCH}
 use Rattle.bits.specs.Digits.{digits, number}
-use Rattle.bits.specs.DigitLaws.{digits-number}
+use Rattle.bits.specs.DigitLaws.{number-lt, digits-number}
 use Rattle.bits.specs.Octets.{bitsOf}
 use Rattle.bits.specs.OctetLaws.{length-octetsOf, octetsOf-octets, bits-octets}
 use Rattle.parity_table.specs.Tables.{positions}
 use Rattle.plan.specs.RateLaws.{Rows}
 use Rattle.plan.specs.Sizes.{slotOctets}
-use Rattle.codeword.specs.Reading.{takenOff, messageIn, tailIn, wrongPosition, parityNumber, bchRight, checksNumber, wordNumber}
+use Rattle.codeword.specs.Reading.{takenOff, messageIn, tailIn, wrongPosition, parityNumber, bchRight, checksNumber, wordNumber, Good}
 use Rattle.codeword.specs.ReadingLaws.{word-good, messageIn-bits, tailIn-bits, messageIn-long, tailIn-long}
 use Rattle.slot.specs.Slots.{sourceOctets, stuffBits, slotShape}
 use Rattle.slot.specs.SlotLaws.{sizes, fits, Source}
-use Rattle.slot.specs.Reading.{stuffRight, receivedNumber, GoodSlot, sourceOf, MovesOn}
+use Rattle.slot.specs.Reading.{receivedNumber, stuffIn, stuffOnes, sourceOf, MovesOn}
 
 -- six ones are the number 63
 ones-number : number 6 stuffBits ≡ 63
@@ -36,44 +32,42 @@ ones-digits : digits 6 63 ≡ stuffBits
 unfolding digits
 ones-digits = refl
 
--- 10: the stuff bits are six ones
-stuff-right : (R : ℕ) (u : List ℕ) → length (tailIn (slotShape R) u) ≡ 6 → Bits (tailIn (slotShape R) u) → (stuffRight R u ≡ true) ↔ (tailIn (slotShape R) u ≡ stuffBits)
-unfolding stuffRight
-stuff-right R u l z =
-    let e = tailIn (slotShape R) u in
-    let all : take 6 e ≡ e = take-all 6 e (omega arith) in
-    let back = digits-number 6 e (omega arith) z in (
-      (λ h. sym all ∙ sym back ∙ ap (digits 6) (eqb-true (number 6 e) 63 h) ∙ ones-digits),
-      (λ h. eq-eqb (number 6 e) 63 (ap (number 6) h ∙ ones-number)),
-    )
+-- the stuff bits of a received slot: six bits, ..
+module _ (R mask r : ℕ) (c : List ℕ) where
+  pub stuff-below : stuffIn R mask r c < 64
+  unfolding stuffIn
+  stuff-below = number-lt 6 (tailIn (slotShape R) (takenOff (slotShape R) mask r c)) (tailIn-bits (slotShape R) c mask r)
 
--- reading answers 0 exactly when all three hold
-pub received-good : (R : ℕ) (t : List ℕ) (mask r : ℕ) (c : List ℕ) → Rows R → length c ≡ slotOctets → (receivedNumber R t mask r c ≡ 0) ↔ GoodSlot R t mask r c
+  module _ (w : Rows R) (l : length c ≡ slotOctets) where
+    -- .. which are the digits of their number, first bit the highest
+    pub stuff-digits : digits 6 (stuffIn R mask r c) ≡ tailIn (slotShape R) (takenOff (slotShape R) mask r c)
+    unfolding stuffIn
+    stuff-digits =
+        let e = tailIn (slotShape R) (takenOff (slotShape R) mask r c) in
+        let n = tailIn-long (slotShape R) c (fits R w) l mask r in
+        digits-number 6 e (omega (arith, n)) (tailIn-bits (slotShape R) c mask r) ∙ take-all 6 e (omega (arith, n))
+
+    -- they are six ones exactly when that is 63
+    pub stuff-ones : (tailIn (slotShape R) (takenOff (slotShape R) mask r c) ≡ stuffBits) ↔ (stuffIn R mask r c ≡ stuffOnes)
+    unfolding stuffIn
+    stuff-ones = ((λ e. ap (number 6) e ∙ ones-number), (λ e. sym stuff-digits ∙ ap (digits 6) e ∙ ones-digits))
+
+-- reading answers 0 exactly when both checks hold
+pub received-good : (R : ℕ) (t : List ℕ) (mask r : ℕ) (c : List ℕ) → Rows R → length c ≡ slotOctets → (receivedNumber R t mask r c ≡ 0) ↔ Good (slotShape R) t mask r c
 unfolding receivedNumber
-received-good R t mask r c w l =
-    let F = slotShape R in
-    let u = takenOff F mask r c in
-    let g = word-good F t mask r c (fits R w) l in
-    let s = stuff-right R u (tailIn-long F c (fits R w) l mask r) (tailIn-bits F c mask r) in (
-      (λ h.
-          let a = then-zero (wordNumber F t mask r c) _ h in
-          record { word = g .0 (a .0); stuff = s .0 (not-refused (stuffRight R u) STUFF (omega arith) (a .1)) }),
-      (λ o. then-both (wordNumber F t mask r c) _ (g .1 (o .word)) (rw (s .1 (o .stuff)))),
-    )
+received-good R t mask r c w l = word-good (slotShape R) t mask r c (fits R w) l
 
-one-of-four : (p b s : Bool) → MovesOn (andThen (andThen (pick p 0 PARITY) (pick b 0 BCH)) (pick s 0 STUFF))
-one-of-four false b s = inr (inl refl)
-one-of-four true false s = inr (inr (inl refl))
-one-of-four true true false = inr (inr (inr refl))
-one-of-four true true true = inl refl
+one-of-three : (p b : Bool) → MovesOn (andThen (pick p 0 PARITY) (pick b 0 BCH))
+one-of-three false b = inr (inl refl)
+one-of-three true false = inr (inr refl)
+one-of-three true true = inl refl
 
 -- a received slot has no other
 pub received-numbers : (R : ℕ) (t : List ℕ) (mask r : ℕ) (c : List ℕ) → MovesOn (receivedNumber R t mask r c)
 unfolding receivedNumber wordNumber checksNumber parityNumber
 received-numbers R t mask r c =
     let F = slotShape R in
-    let u = takenOff F mask r c in
-    one-of-four (eqb (wrongPosition F t c) (positions R)) (bchRight F u) (stuffRight R u)
+    one-of-three (eqb (wrongPosition F t c) (positions R)) (bchRight F (takenOff F mask r c))
 
 -- header and data octets of a received slot
 pub sourceOf-source : (R mask r : ℕ) (c : List ℕ) → Source R (sourceOf R mask r c)

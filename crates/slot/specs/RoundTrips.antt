@@ -1,7 +1,7 @@
 -- Coding and then reading a slot, and reading and then coding one: over the definitions of a slot, and over the calls
--- with their numbers, states and areas. Reading answers 0 exactly when all three checks hold. The state after a slot is
+-- with their numbers, states and areas. Reading answers 0 exactly when both checks hold. The state after a slot is
 -- the same whether it was coded or read, read well or not, and it is sound for the next call.
-use mathlib.Core.Path.{_≡_, refl, sym, ap, ap₂, _∙_}
+use mathlib.Core.Path.{_≡_, refl, sym, ap, _∙_}
 use mathlib.Core.Bool.{Bool, true, false, _&&_, _||_, false≢true}
 use mathlib.Core.List.{List}
 use mathlib.Core.Logic.{_↔_, inl, inr}
@@ -13,8 +13,8 @@ use lib.Dec.{eqb, leb, ltb}
 use lib.ListN.{length}
 use Rattle.lists.specs.Runs.{Octets}
 use Rattle.lists.specs.Choice.{pick, andThen}
-use Rattle.lists.specs.ChoiceLaws.{then-zero, then-next, then-first, then-both}
-use Rattle.refusal.specs.Numbers.{PLAN, DUMMY, FULL, LENGTH, TABLE, REGISTER, PARITY, STUFF, VALUE, ORDER, TOTAL}
+use Rattle.lists.specs.ChoiceLaws.{pick-each, then-each, then-zero, then-next, then-first, then-both}
+use Rattle.refusal.specs.Numbers.{PLAN, DUMMY, FULL, LENGTH, TABLE, REGISTER, PARITY, BCH, VALUE, ORDER, TOTAL}
 use Rattle.bits.specs.Octets.{bitsOf}
 use Rattle.bits.specs.OctetLaws.{octets-bits}
 use Rattle.dispersal.specs.Register.{registerOk, settingsOk}
@@ -28,45 +28,50 @@ use Rattle.plan.specs.Places.{carries}
 use Rattle.plan.specs.Sizes.{slotOctets, slotWidth}
 use Rattle.plan.specs.States.{soundNumber, stateNumber}
 use Rattle.plan.specs.StateLaws.{sound-yes, moved-sound}
-use Rattle.codeword.specs.Words.{wordOf}
 use Rattle.codeword.specs.Calls.{lentNumber as wordLentNumber}
 use Rattle.codeword.specs.CallLaws.{lent-lengths}
-use Rattle.codeword.specs.ReadingLaws.{Received, word-good}
-use Rattle.codeword.specs.RoundTrips.{coded-read as word-back, read-coded as word-again}
+use Rattle.codeword.specs.WordLaws.{Message}
+use Rattle.codeword.specs.Reading.{takenOff, messageIn, Good}
+use Rattle.codeword.specs.ReadingLaws.{Received}
+use Rattle.codeword.specs.RoundTrips.{coded-read as word-back, coded-again as word-again, coded-same as word-same}
 use Rattle.slot.specs.Slots.{sourceOctets, coveredBits, stuffBits, slotShape, slotOf, registerAfter}
 use Rattle.slot.specs.SlotLaws.{Source, fits, message, length-slotOf}
-use Rattle.slot.specs.Reading.{receivedNumber, GoodSlot, sourceOf, MovesOn}
-use Rattle.slot.specs.ReadingLaws.{received-numbers, received-good, sourceOf-source, sourceOf-bits}
-use Rattle.slot.specs.Calls.{rowsAt, dataNumber, slotNumber, nextState, codeAnswer, codeArea, readNumber, readAnswer, readArea, Answers}
+use Rattle.slot.specs.Reading.{receivedNumber, stuffIn, stuffOnes, sourceOf, MovesOn}
+use Rattle.slot.specs.ReadingLaws.{stuff-ones, received-numbers, received-good, sourceOf-source, sourceOf-bits}
+use Rattle.slot.specs.Calls.{rowsAt, dataNumber, slotNumber, nextState, codeAnswer, codeArea, readNumber, readAnswer, readArea, Reads, CodedAgain, CodedBack}
 use Rattle.slot.specs.CallLaws.{accepted-slot}
 
--- that reading the slot c answers 0 and gives these header and data octets
+-- that reading the slot c answers 0 and gives these header and data octets, and stuff bits of ones
 pub record ReadsAs (R : ℕ) (t : List ℕ) (mask r : ℕ) (c octets : List ℕ) : Type 0 where
   pub number : receivedNumber R t mask r c ≡ 0
   pub source : sourceOf R mask r c ≡ octets
+  pub stuff : stuffIn R mask r c ≡ stuffOnes
 
 -- coding and then reading returns header and data
 pub coded-read : (R : ℕ) (t : List ℕ) (mask r : ℕ) (source : List ℕ) → Rows R → Source R source → ReadsAs R t mask r (slotOf R t mask r source) source
-unfolding sourceOf slotOf
+unfolding receivedNumber sourceOf slotOf
 coded-read R t mask r source w o =
     let F = slotShape R in
     let c = slotOf R t mask r source in
     let long = length-slotOf R t mask r source in
     let b = word-back F t mask r (bitsOf source) stuffBits (fits R w) (message R source w (o .long)) in
     record {
-      number = received-good R t mask r c w long .1 (record { word = word-good F t mask r c (fits R w) long .0 (b .number); stuff = b .tail });
+      number = b .number;
       source = rw (b .message) (octets-bits (sourceOctets R) source (o .long) (o .octets));
+      stuff = stuff-ones R mask r c w long .0 (b .tail);
     }
 
--- reading an accepted slot and coding it again at the same register returns its octets
+-- an accepted slot coded again at the same register, from the header and data that were read
 pub read-coded : (R : ℕ) (t : List ℕ) (mask r : ℕ) (c : List ℕ) → Rows R → Received (slotShape R) c → receivedNumber R t mask r c ≡ 0
-    → slotOf R t mask r (sourceOf R mask r c) ≡ c
-unfolding slotOf
+    → CodedAgain R t mask r (stuffIn R mask r c) c (slotOf R t mask r (sourceOf R mask r c))
+unfolding receivedNumber slotOf
 read-coded R t mask r c w o h =
     let F = slotShape R in
-    let g = received-good R t mask r c w (o .long) .0 h in
-    ap₂ (wordOf F t mask r) (sourceOf-bits R mask r c w (o .long)) (sym (g .stuff))
-    ∙ word-again F t mask r c (fits R w) o (word-good F t mask r c (fits R w) (o .long) .1 (g .word))
+    let e = sourceOf-bits R mask r c w (o .long) in
+    let m : Message F (messageIn F (takenOff F mask r c)) stuffBits = rw e at (message R (sourceOf R mask r c) w (sourceOf-source R mask r c .long)) in
+    let a = word-same F t mask r c (fits R w) o h stuffBits m in
+    let b = stuff-ones R mask r c w (o .long) in
+    rw e (record { same = ((λ d. b .0 (a .0 d)), (λ d. a .1 (b .1 d))); anew = word-again F t mask r c (fits R w) o h stuffBits })
 
 -- of the lent areas only the lengths count for the number of a call
 pub slotNumber-lengths : (s : FrameState) (t source coded source′ coded′ : List ℕ) → length source ≡ length source′ → length coded ≡ length coded′
@@ -75,44 +80,39 @@ unfolding slotNumber
 slotNumber-lengths s t source coded source′ coded′ l m =
     ap (andThen (dataNumber s)) (lent-lengths (slotShape (rowsAt s)) (sourceOctets (rowsAt s)) t source coded source′ coded′ l m)
 
--- a reading that is refused for nothing before the slot itself is read answers 0 exactly when all three checks hold
+-- a reading that is refused for nothing before the slot itself is read answers 0 exactly when both checks hold
 pub read-good : (s : FrameState) (t coded source : List ℕ) → slotNumber s t source coded ≡ 0
-    → (readAnswer s t coded source .number ≡ 0) ↔ GoodSlot (rowsAt s) t (s .mask) (s .register) coded
+    → (readAnswer s t coded source .number ≡ 0) ↔ Good (slotShape (rowsAt s)) t (s .mask) (s .register) coded
 unfolding readAnswer readNumber
 read-good s t coded source h =
     let a = accepted-slot s t source coded h in
     rw (then-next (slotNumber s t source coded) (receivedNumber (rowsAt s) t (s .mask) (s .register) coded) h)
     (received-good (rowsAt s) t (s .mask) (s .register) coded (a .place .rows) (a .areas .coded-long))
 
--- the numbers tested before the slot itself is read are none of 8, 9 and 10
+-- the numbers tested before the slot itself is read are neither 8 nor 9
 abbrev Earlier : ℕ → Type 0
 Earlier n = MovesOn n → n ≡ 0
 
--- below 8 or above 10
+-- below 8 or above 9
 abbrev beside : ℕ → Bool
-beside n = ltb n PARITY || ltb STUFF n
+beside n = ltb n PARITY || ltb BCH n
 
 earlier : (n : ℕ) → beside n ≡ true → Earlier n
 earlier n h (inl e) = e
 earlier n h (inr (inl e)) = absurd (false≢true (rw e at h))
-earlier n h (inr (inr (inl e))) = absurd (false≢true (rw e at h))
-earlier n h (inr (inr (inr e))) = absurd (false≢true (rw e at h))
-
-earlier-pick : (b : Bool) {m n : ℕ} → Earlier m → Earlier n → Earlier (pick b m n)
-earlier-pick true h k = h
-earlier-pick false h k = k
+earlier n h (inr (inr e)) = absurd (false≢true (rw e at h))
 
 earlier-then : {a b : ℕ} → Earlier a → Earlier b → Earlier (andThen a b)
-earlier-then {a} h k = earlier-pick (eqb a 0) k h
+earlier-then = then-each Earlier
 
 earlier-test : (b : Bool) (n : ℕ) → beside n ≡ true → Earlier (pick b 0 n)
-earlier-test b n h = earlier-pick b (earlier 0 refl) (earlier n h)
+earlier-test b n h = pick-each Earlier b (earlier 0 refl) (earlier n h)
 
 state-earlier : (s : FrameState) → Earlier (stateNumber s)
 unfolding stateNumber soundNumber
 state-earlier s =
     earlier-then
-    (earlier-then (earlier-pick (eqb (s .slot) 0) (earlier PLAN refl) (earlier 0 refl))
+    (earlier-then (pick-each Earlier (eqb (s .slot) 0) (earlier PLAN refl) (earlier 0 refl))
     (earlier-then (plan-each Earlier (earlier 0 refl) (earlier PLAN refl) (earlier VALUE refl) (earlier ORDER refl) (earlier TOTAL refl) (planIn s))
     (earlier-test (settingsOk slotWidth (s .mask) (s .start) && registerOk slotWidth (s .register)) REGISTER refl)))
     (earlier-test (leb (s .slot) 120) FULL refl)
@@ -153,7 +153,7 @@ pub read-state : (s : FrameState) (t coded source : List ℕ) → MovesOn (readA
 unfolding readAnswer
 read-state s t coded source m = ap (λ b. pick b (nextState s) s) (eq-eqb (slotNumber s t source coded) 0 (read-moves s t coded source .0 m))
 
--- it is the same whether the slot was coded, read well, or read with 8, 9 or 10
+-- it is the same whether the slot was coded, read well, or read with 8 or 9
 pub next-same : (s : FrameState) (t source coded t′ coded′ source′ : List ℕ)
     → codeAnswer s t source coded .number ≡ 0 → MovesOn (readAnswer s t′ coded′ source′ .number)
     → codeAnswer s t source coded .state ≡ readAnswer s t′ coded′ source′ .state
@@ -174,10 +174,11 @@ coded-next s t source coded h = rw (coded-state s t source coded h) (next-sound 
 pub read-next : (s : FrameState) (t coded source : List ℕ) → MovesOn (readAnswer s t coded source .number) → soundNumber (readAnswer s t coded source .state) ≡ 0
 read-next s t coded source m = rw (read-state s t coded source m) (next-sound s t source coded (read-moves s t coded source .0 m))
 
--- a slot that was coded with 0, read at the same state with the same table: 0, the same next state, header and data
+-- a slot that was coded with 0, read at the same state with the same table: 0, the same next state, stuff bits of ones, header
+-- and data
 pub code-then-read : (s : FrameState) (t source coded out : List ℕ) → Octets source → length out ≡ length source
     → codeAnswer s t source coded .number ≡ 0
-    → Answers (readAnswer s t (codeArea s t source coded) out) (readArea s t (codeArea s t source coded) out) (codeAnswer s t source coded .state) source
+    → Reads (readAnswer s t (codeArea s t source coded) out) (readArea s t (codeArea s t source coded) out) (codeAnswer s t source coded .state) stuffOnes source
 unfolding codeAnswer codeArea readAnswer readArea readNumber
 code-then-read s t source coded out o l h =
     let R = rowsAt s in
@@ -190,13 +191,14 @@ code-then-read s t source coded out o l h =
     rw area (record {
       number = k;
       state = sym (next-same s t source coded t c out h (inl k));
+      stuff-is = rw (eq-eqb (readNumber s t c out) 0 k) (again .stuff);
       octets-are = rw (eq-eqb (readNumber s t c out) 0 k) (again .source);
     })
 
--- a slot that was read with 0, coded again at the same state with the same table: 0, the same next state, its octets
+-- a slot that was read with 0, coded again at the same state with the same table: 0, the same next state, the slot again
 pub read-then-code : (s : FrameState) (t coded source out : List ℕ) → Octets coded → length out ≡ length coded
     → readAnswer s t coded source .number ≡ 0
-    → Answers (codeAnswer s t (readArea s t coded source) out) (codeArea s t (readArea s t coded source) out) (readAnswer s t coded source .state) coded
+    → CodedBack s t (readAnswer s t coded source) (codeAnswer s t (readArea s t coded source) out) coded (codeArea s t (readArea s t coded source) out)
 unfolding codeAnswer codeArea readAnswer readArea readNumber
 read-then-code s t coded source out o l h =
     let R = rowsAt s in
@@ -208,5 +210,7 @@ read-then-code s t coded source out o l h =
     rw area (record {
       number = n;
       state = next-same s t m out t coded source n (inl h);
-      octets-are = rw (eq-eqb (slotNumber s t m out) 0 n) (read-coded R t (s .mask) (s .register) coded (a .place .rows) (record { octets = o; long = a .areas .coded-long }) (z .1));
+      slot =
+          rw (eq-eqb (slotNumber s t m out) 0 n, eq-eqb (readNumber s t coded source) 0 h)
+          (read-coded R t (s .mask) (s .register) coded (a .place .rows) (record { octets = o; long = a .areas .coded-long }) (z .1));
     })

@@ -5,6 +5,17 @@ mod sizes;
 pub use calls::data_number;
 pub use calls::rows_at;
 pub use calls::slot_number;
+use plan::FrameState;
 pub use sizes::message_bits;
 pub use sizes::shape;
 pub use sizes::source_octets;
+
+// What stands for the stuff bits of a slot that is not read.
+pub const NO_STUFF: u8 = 255;
+
+// What reading a slot answers: its number, 0 or the refusal, the state after it, and the slot's stuff bits as a number.
+pub struct SlotRead {
+    pub number: u8,
+    pub state: FrameState,
+    pub stuff: u8,
+}

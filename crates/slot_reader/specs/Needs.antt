@@ -11,7 +11,7 @@ use Rattle.plan.specs.Sizes.{slotWidth}
 use Rattle.codeword.specs.Words.{runBits}
 use Rattle.slot.specs.Areas.{Checked}
 use Rattle.slot.specs.Slots.{sourceOctets, slotShape, registerAfter}
-use Rattle.slot.specs.Reading.{receivedNumber, sourceOf}
+use Rattle.slot.specs.Reading.{receivedNumber, stuffIn, stuffWith, sourceOf}
 
 -- what the parity check of a slot is lent, with a register and an area for header and data octets
 pub record Readable (R r : ℕ) (t coded bits input sums source : List ℕ) : Type 0 where
@@ -26,8 +26,9 @@ pub record Taken (R : ℕ) (plain source : List ℕ) : Type 0 where
   pub bits : Bits plain
   pub long : length source ≡ sourceOctets R
 
--- a slot read: number, register and area are those of the definitions
-pub record ReadOf (R : ℕ) (t : List ℕ) (mask r : ℕ) (c source : List ℕ) (n g : ℕ) (left : List ℕ) : Type 0 where
+-- a slot read: number, register, stuff bits and area are those of the definitions
+pub record ReadOf (R : ℕ) (t : List ℕ) (mask r : ℕ) (c source : List ℕ) (n g x : ℕ) (left : List ℕ) : Type 0 where
   pub number : n ≡ receivedNumber R t mask r c
   pub register : g ≡ registerAfter R mask r
+  pub stuff : x ≡ stuffWith (receivedNumber R t mask r c) (stuffIn R mask r c)
   pub area : left ≡ pick (eqb (receivedNumber R t mask r c) 0) (sourceOf R mask r c) source

@@ -1,5 +1,5 @@
 -- Laws of reading a slot: its answer and its area where the call is refused before the slot is looked at, and where not.
-use mathlib.Core.Path.{_≡_, ap₂}
+use mathlib.Core.Path.{_≡_}
 use mathlib.Core.List.{List}
 use Prim.Native.Nat.{ℕ}
 use lib.Dec.{eqb}
@@ -7,13 +7,14 @@ use borrow.Author.Tests.{eq-eqb, ne-eqb}
 use Rattle.lists.specs.Choice.{pick}
 use Rattle.lists.specs.ChoiceLaws.{then-first, then-next}
 use Rattle.plan.specs.declared.FrameState.{FrameState}
-use Rattle.plan.specs.declared.Answer.{Answer}
-use Rattle.slot.specs.Reading.{receivedNumber, sourceOf}
+use Rattle.slot.specs.declared.SlotRead.{SlotRead}
+use Rattle.slot.specs.Reading.{receivedNumber, stuffIn, noStuff, stuffWith, sourceOf}
 use Rattle.slot.specs.Calls.{rowsAt, slotNumber, nextState, readNumber, readAnswer, readArea}
 
--- an answer is its number and its state
-pub answer≡ : {m n : ℕ} {s t : FrameState} → m ≡ n → s ≡ t → _≡_ {A = Answer} (record { number = m; state = s }) (record { number = n; state = t })
-answer≡ p q = ap₂ (λ (x : ℕ) (y : FrameState). record { number = x; state = y }) p q
+-- an answer is its number, its state and its stuff bits
+pub answer≡ : {m n : ℕ} {s t : FrameState} {u v : ℕ} → m ≡ n → s ≡ t → u ≡ v
+    → _≡_ {A = SlotRead} (record { number = m; state = s; stuff = u }) (record { number = n; state = t; stuff = v })
+answer≡ p q e = cc
 
 module _ (s : FrameState) (t c source : List ℕ) where
   -- "A refusal changes no lent octet and no state handed in"
@@ -22,23 +23,28 @@ module _ (s : FrameState) (t c source : List ℕ) where
     unfolding readNumber
     readNumber-refused = then-first _ _ h
 
-    pub readAnswer-refused : readAnswer s t c source ≡ record { number = slotNumber s t source c; state = s }
+    pub readAnswer-refused : readAnswer s t c source ≡ record { number = slotNumber s t source c; state = s; stuff = noStuff }
     unfolding readAnswer
-    readAnswer-refused = answer≡ readNumber-refused (rw (ne-eqb (slotNumber s t source c) 0 h))
+    readAnswer-refused = answer≡ readNumber-refused (rw (ne-eqb (slotNumber s t source c) 0 h)) (rw (readNumber-refused, ne-eqb (slotNumber s t source c) 0 h))
 
     pub readArea-refused : readArea s t c source ≡ source
     unfolding readArea
     readArea-refused = rw (readNumber-refused, ne-eqb (slotNumber s t source c) 0 h)
 
-  -- "save that 8, 9 and 10 move the slot reader on one place with the register stepped as for a good slot"
+  -- "save that 8, 9 .. move the slot reader on one place with the register stepped as for a good slot"
   module _ (h : slotNumber s t source c ≡ 0) where
     pub readNumber-looked : readNumber s t c source ≡ receivedNumber (rowsAt s) t (s .mask) (s .register) c
     unfolding readNumber
     readNumber-looked = then-next _ _ h
 
-    pub readAnswer-looked : readAnswer s t c source ≡ record { number = receivedNumber (rowsAt s) t (s .mask) (s .register) c; state = nextState s }
+    pub readAnswer-looked : readAnswer s t c source
+        ≡ record {
+          number = receivedNumber (rowsAt s) t (s .mask) (s .register) c;
+          state = nextState s;
+          stuff = stuffWith (receivedNumber (rowsAt s) t (s .mask) (s .register) c) (stuffIn (rowsAt s) (s .mask) (s .register) c);
+        }
     unfolding readAnswer
-    readAnswer-looked = answer≡ readNumber-looked (rw (eq-eqb (slotNumber s t source c) 0 h))
+    readAnswer-looked = answer≡ readNumber-looked (rw (eq-eqb (slotNumber s t source c) 0 h)) (rw readNumber-looked)
 
     pub readArea-looked : readArea s t c source ≡ pick (eqb (receivedNumber (rowsAt s) t (s .mask) (s .register) c) 0) (sourceOf (rowsAt s) (s .mask) (s .register) c) source
     unfolding readArea

@@ -1,32 +1,31 @@
 // A received slot, read by way of lent areas.
-ghost use Rattle.refusal.specs.Answers.{Answered};
+ghost use mathlib.Core.Path.{_≡_};
+ghost use Rattle.bits.specs.Digits.{number};
 ghost use Rattle.bits.specs.Octets.{octetsOf};
-ghost use Rattle.lists.specs.Choice.{pick};
-ghost use Rattle.refusal.specs.Numbers.{STUFF};
-ghost use Rattle.codeword.specs.Reading.{messageIn};
+ghost use Rattle.codeword.specs.Reading.{messageIn, tailIn};
 ghost use Rattle.slot.specs.Slots.{sourceOctets, slotShape};
-ghost use Rattle.slot.specs.Reading.{stuffRight};
 ghost use Rattle.slot_reader.specs.Needs.{Taken, Readable, ReadOf};
-use word_reader::WordRead;
 
-// Six ones, as a number.
-const STUFF_ONES: u64 = 63;
+// A received slot, read: the refusal of its parity or BCH bits, or 0, the register after it, and its stuff bits.
+pub struct Found {
+    pub number: u8,
+    pub register: u32,
+    pub stuff: u8,
+}
 
-// Header and data octets of the bits with dispersal taken off, or the refusal of their stuff bits.
+// Header and data octets of the bits with dispersal taken off; their stuff bits as a number.
 fn take_source(rows: usize, plain: &[u8], source: &mut [u8]) -> u8
     requires { ⌜ Taken rows (now plain) (now source) ⌝ }
-    ensures { λ r. ⌜ Answered (pick (stuffRight rows (now (plain .entry))) 0 STUFF) (octetsOf (sourceOctets rows) (messageIn (slotShape rows) (now (plain .entry)))) (now (source .entry)) r (now (source .exit)) ⌝ }
+    ensures { λ r. ⌜ r ≡ number 6 (tailIn (slotShape rows) (now (plain .entry))) ⌝ }
+    ensures { λ _. ⌜ now (source .exit) ≡ octetsOf (sourceOctets rows) (messageIn (slotShape rows) (now (plain .entry))) ⌝ }
 {
     let message = slot::message_bits(rows);
     let stuff = message + 192;
-    if bits::gather(&plain[stuff..]) != STUFF_ONES {
-        return refusal::STUFF;
-    }
     bits::collect(&plain[0..message], source);
-    0
+    bits::gather(&plain[stuff..]) as u8
 }
 
-// A slot read: its number, the register after it, and header and data octets where the number is 0.
+// A slot read: its number, the register after it, and header and data octets and stuff bits where the number is 0.
 pub fn read(
     rows: usize,
     table: &[u16],
@@ -37,9 +36,9 @@ pub fn read(
     input: &mut [u8],
     sums: &mut [u8],
     source: &mut [u8],
-) -> WordRead
+) -> Found
     requires { ⌜ Readable rows register (now table) (now coded) (now bits) (now input) (now sums) (now source) ⌝ }
-    ensures { λ r. ⌜ ReadOf rows (now (table .entry)) mask register (now (coded .entry)) (now (source .entry)) (r .number) (r .register) (now (source .exit)) ⌝ }
+    ensures { λ r. ⌜ ReadOf rows (now (table .entry)) mask register (now (coded .entry)) (now (source .entry)) (r .number) (r .register) (r .stuff) (now (source .exit)) ⌝ }
 {
     let shape = slot::shape(rows);
     let run = codeword::run_bits(shape);
@@ -56,11 +55,16 @@ pub fn read(
         &mut sums[0..positions],
     );
     if word.number != 0 {
-        return word;
+        return Found {
+            number: word.number,
+            register: word.register,
+            stuff: slot::NO_STUFF,
+        };
     }
-    let number = take_source(rows, &bits[0..run], source);
-    WordRead {
-        number,
+    let stuff = take_source(rows, &bits[0..run], source);
+    Found {
+        number: 0,
         register: word.register,
+        stuff,
     }
 }

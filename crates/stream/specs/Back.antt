@@ -16,9 +16,9 @@ use Rattle.plan.specs.RateLaws.{rate-sizes}
 use Rattle.packets.specs.Packets.{packed, unpacked}
 use Rattle.packets.specs.PacketLaws.{pack-ready, pack-ready-yes, packed-none, packed-more, length-packed, length-unpacked, unpacked-packed, unpacked-syncs, packed-unpacked}
 use Rattle.slot.specs.Slots.{sourceOctets}
-use Rattle.slot.specs.Reading.{sourceOf}
+use Rattle.slot.specs.Reading.{stuffOnes, sourceOf}
 use Rattle.slot.specs.ReadingLaws.{sourceOf-source}
-use Rattle.slot.specs.Calls.{rowsAt, dataNumber, codeAnswer, codeArea, readAnswer, Answers}
+use Rattle.slot.specs.Calls.{rowsAt, dataNumber, codeAnswer, codeArea, readAnswer, CodedBack}
 use Rattle.slot.specs.RoundTrips.{code-then-read, read-then-code}
 use Rattle.stream.specs.SlotPackets.{headerOctets, rateAt, laid, laidNumber, roomNumber, codePacketsAnswer, codePacketsArea, sourceArea, slotAnswer, headerIn, packetsIn, readPacketsAnswer, readHeaderArea, readPacketsArea, ReadBack}
 use Rattle.stream.specs.SlotPacketsLaws.{rate-known, lays, laid-for, room, room-for, source-at, slot-source}
@@ -38,12 +38,12 @@ coded-laid s t header packets coded h = go (ℕ-discrete (laidNumber s header pa
     go (no d) = rw (ne-eqb (laidNumber s header packets) 0 d) at h
 
 -- the slot that header and packets were coded into with 0, read at the same state with the same table: 0, the same next
--- state, and both
+-- state, stuff bits of ones, and both
 pub packets-back : (s : FrameState) (t header packets coded head found : List ℕ) → Octets header → Octets packets
     → length head ≡ headerOctets → length found ≡ length packets → codePacketsAnswer s t header packets coded .number ≡ 0
     → let c = codePacketsArea s t header packets coded in
     ReadBack (readPacketsAnswer s t c head found) (readHeaderArea s t c head found) (readPacketsArea s t c head found)
-    (codePacketsAnswer s t header packets coded .state) header packets
+    (codePacketsAnswer s t header packets coded .state) stuffOnes header packets
 unfolding codePacketsAnswer codePacketsArea readPacketsAnswer readHeaderArea readPacketsArea slotAnswer headerIn packetsIn
 packets-back s t header packets coded head found oh op lh lf h =
     let n = packetsOf (rateAt s) in
@@ -68,7 +68,7 @@ packets-back s t header packets coded head found oh op lh lf h =
     ap (λ (xs : List ℕ). unpacked n (drop headerOctets xs)) v
     ∙ ap (unpacked n) (drop-at header (packed n packets) headerOctets (a .long))
     ∙ unpacked-packed n packets (p .sized .packets) (p .syncs) in
-    rw (zt, zr) (record { number = r .number; state = r .state; header-is = rw zn d; packets-are = rw zn b })
+    rw (zt, zr) (record { number = r .number; state = r .state; stuff-is = r .stuff-is; header-is = rw zn d; packets-are = rw zn b })
 
 -- a reading that answers 0 is one whose areas are refused for nothing
 read-room : (s : FrameState) (t coded head found : List ℕ) → readPacketsAnswer s t coded head found .number ≡ 0 → roomNumber s head found ≡ 0
@@ -106,12 +106,12 @@ module _ (s : FrameState) (place : dataNumber s ≡ 0) (m : List ℕ) (long : le
       })
 
 -- a slot that was read with 0 into header and packets, coded again from both at the same state with the same table: 0, the
--- same next state, its octets
+-- same next state, the slot again
 pub slot-back : (s : FrameState) (t coded head found out : List ℕ) → Octets coded → length out ≡ length coded
     → readPacketsAnswer s t coded head found .number ≡ 0
     → let h = readHeaderArea s t coded head found in
     let p = readPacketsArea s t coded head found in
-    Answers (codePacketsAnswer s t h p out) (codePacketsArea s t h p out) (readPacketsAnswer s t coded head found .state) coded
+    CodedBack s t (readPacketsAnswer s t coded head found) (codePacketsAnswer s t h p out) coded (codePacketsArea s t h p out)
 unfolding codePacketsAnswer codePacketsArea readPacketsAnswer readHeaderArea readPacketsArea slotAnswer headerIn packetsIn
 slot-back s t coded head found out o l h =
     let z = read-room s t coded head found h in

@@ -16,7 +16,8 @@ use Rattle.plan.specs.Plans.{rateOf}
 use Rattle.plan.specs.Places.{groupAt}
 use Rattle.packets.specs.Packets.{packed, unpacked, packNumber}
 use Rattle.slot.specs.Slots.{sourceOctets}
-use Rattle.slot.specs.Reading.{sourceOf}
+use Rattle.slot.specs.declared.SlotRead.{SlotRead}
+use Rattle.slot.specs.Reading.{noStuff, sourceOf}
 use Rattle.slot.specs.Calls.{rowsAt, dataNumber, codeAnswer, codeArea, readAnswer}
 
 -- "header 176" bits
@@ -59,7 +60,7 @@ abbrev pub sourceArea : FrameState → List ℕ
 sourceArea s = replicate (sourceOctets (rowsAt s)) 0
 
 -- reading the slot into it
-unfoldable pub slotAnswer : FrameState → List ℕ → List ℕ → Answer
+unfoldable pub slotAnswer : FrameState → List ℕ → List ℕ → SlotRead
 slotAnswer s t coded = readAnswer s t coded (sourceArea s)
 
 -- header and packets of a received slot, "with 0x47 put back"
@@ -69,11 +70,12 @@ headerIn s coded = take headerOctets (sourceOf (rowsAt s) (s .mask) (s .register
 unfoldable pub packetsIn : FrameState → List ℕ → List ℕ
 packetsIn s coded = unpacked (packetsOf (rateAt s)) (drop headerOctets (sourceOf (rowsAt s) (s .mask) (s .register) coded))
 
--- reading a slot into header and packets: number and state; and what its two areas hold then, which are as found where the
--- number is not 0
-unfoldable pub readPacketsAnswer : FrameState → List ℕ → List ℕ → List ℕ → List ℕ → Answer
+-- reading a slot into header and packets: number, state and stuff bits; and what its two areas hold then, which are as found
+-- where the number is not 0
+unfoldable pub readPacketsAnswer : FrameState → List ℕ → List ℕ → List ℕ → List ℕ → SlotRead
 readPacketsAnswer s t coded header packets =
-    pick (eqb (roomNumber s header packets) 0) (slotAnswer s t coded) (record { number = roomNumber s header packets; state = s })
+    pick (eqb (roomNumber s header packets) 0) (slotAnswer s t coded)
+    (record { number = roomNumber s header packets; state = s; stuff = noStuff })
 
 unfoldable pub readHeaderArea : FrameState → List ℕ → List ℕ → List ℕ → List ℕ → List ℕ
 readHeaderArea s t coded header packets = pick (eqb (readPacketsAnswer s t coded header packets .number) 0) (headerIn s coded) header
@@ -81,9 +83,10 @@ readHeaderArea s t coded header packets = pick (eqb (readPacketsAnswer s t coded
 unfoldable pub readPacketsArea : FrameState → List ℕ → List ℕ → List ℕ → List ℕ → List ℕ
 readPacketsArea s t coded header packets = pick (eqb (readPacketsAnswer s t coded header packets .number) 0) (packetsIn s coded) packets
 
--- that reading answers 0 with this state, and leaves this header and these packets in its areas
-pub record ReadBack (a : Answer) (head area : List ℕ) (next : FrameState) (header packets : List ℕ) : Type 0 where
+-- that reading answers 0 with this state and these stuff bits, and leaves this header and these packets in its areas
+pub record ReadBack (a : SlotRead) (head area : List ℕ) (next : FrameState) (stuff : ℕ) (header packets : List ℕ) : Type 0 where
   pub number : a .number ≡ 0
   pub state : a .state ≡ next
+  pub stuff-is : a .stuff ≡ stuff
   pub header-is : head ≡ header
   pub packets-are : area ≡ packets

@@ -5,8 +5,8 @@ ghost use Rattle.stream.specs.SlotPackets.{readPacketsAnswer, readHeader
 use crate::HEADER;
 use crate::numbers::rate_at;
 use crate::numbers::room_number;
-use plan::Answer;
 use plan::FrameState;
+use slot::SlotRead;
 
 // Reads a slot by way of an area for its header and data octets.
 fn read_by(
@@ -17,7 +17,7 @@ fn read_by(
     source: &mut [u8],
     header: &mut [u8],
     packets: &mut [u8],
-) -> Answer
+) -> SlotRead
     requires { ⌜ Reading state rate (now source) (now header) (now packets) ⌝ }
     ensures { λ r. ⌜ r ≡ readPacketsAnswer state (now (table .entry)) (now (coded .entry)) (now (header .entry)) (now (packets .entry)) ⌝ }
     ensures { λ _. ⌜ now (header .exit) ≡ readHeaderArea state (now (table .entry)) (now (coded .entry)) (now (header .entry)) (now (packets .entry)) ⌝ }
@@ -33,21 +33,25 @@ fn read_by(
     answer
 }
 
-// Reads header and packets of the state's next slot, with read_slot's number and state: both, or the areas as they were.
+// Reads header and packets of the state's next slot, with read_slot's number, state and stuff bits: both, or the areas as they were.
 pub fn read_packets(
     state: FrameState,
     table: &[u16],
     coded: &[u8],
     header: &mut [u8],
     packets: &mut [u8],
-) -> Answer
+) -> SlotRead
     ensures { λ r. ⌜ r ≡ readPacketsAnswer state (now (table .entry)) (now (coded .entry)) (now (header .entry)) (now (packets .entry)) ⌝ }
     ensures { λ _. ⌜ now (header .exit) ≡ readHeaderArea state (now (table .entry)) (now (coded .entry)) (now (header .entry)) (now (packets .entry)) ⌝ }
     ensures { λ _. ⌜ now (packets .exit) ≡ readPacketsArea state (now (table .entry)) (now (coded .entry)) (now (header .entry)) (now (packets .entry)) ⌝ }
 {
     let number = room_number(state, header, packets);
     if number != 0 {
-        return Answer { number, state };
+        return SlotRead {
+            number,
+            state,
+            stuff: slot::NO_STUFF,
+        };
     }
     let rate = rate_at(state);
     let end = HEADER + plan::data_octets(rate);

@@ -37,6 +37,7 @@ fn read_frames(
     frame: &[u8],
     found: &mut [u8],
     answers: &mut [u8],
+    stuff: &mut [u8],
 ) {
     let mut n: u64 = 0;
     while n < count {
@@ -48,6 +49,7 @@ fn read_frames(
             frame,
             found,
             answers,
+            stuff,
         );
         n += 1;
     }
@@ -74,9 +76,18 @@ fn run(
     frame: &mut [u8],
 ) {
     let mut answers = [0u8; 120];
+    let mut stuff = [0u8; 120];
     test_samples::fill(rate as u64, source);
     code_frames(rate, table, codings, source, frame);
-    read_frames(rate, table, readings, frame, found, &mut answers);
+    read_frames(
+        rate,
+        table,
+        readings,
+        frame,
+        found,
+        &mut answers,
+        &mut stuff,
+    );
     line(rate, codings, readings, frame, &answers, found);
 }
 

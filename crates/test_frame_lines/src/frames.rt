@@ -17,11 +17,22 @@ fn code_line(number: u16, tables: &[u16], source: &mut [u8], frame: &mut [u8]) {
 // Reads a frame into areas that are filled before, so that what is left as found shows.
 fn read_line(number: u16, name: &[u8], tables: &[u16], frame: &[u8], source: &mut [u8]) {
     let mut answers = [11u8; 120];
+    let mut stuff = [11u8; 120];
     test_samples::fill(9, source);
     let plan = test_samples::numbered_plan(number);
-    let answer = frame_reader::read_frame(plan, MASK, START, tables, frame, source, &mut answers);
+    let answer = frame_reader::read_frame(
+        plan,
+        MASK,
+        START,
+        tables,
+        frame,
+        source,
+        &mut answers,
+        &mut stuff,
+    );
     lines::answer(number, name, answer);
-    lines::answers(&answers);
+    lines::each(b" answers ", &answers);
+    lines::each(b" stuff ", &stuff);
     lines::end(source);
 }
 

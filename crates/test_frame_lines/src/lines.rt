@@ -8,9 +8,9 @@ pub fn answer(frame: u16, name: &[u8], answer: u8) {
     field(name, answer as u64);
 }
 
-// The digest of the octets that the calls give back for each slot.
-pub fn answers(octets: &[u8; 120]) {
-    field(b" answers ", test_samples::digest(octets));
+// The digest of octets that the calls give back for each slot.
+pub fn each(name: &[u8], octets: &[u8; 120]) {
+    field(name, test_samples::digest(octets));
 }
 
 // The digest of the octets that a call wrote or left, and the end of the line.

@@ -1,6 +1,8 @@
 // The lines that are written.
 use libc::STDOUT_FILENO;
 use plan::Answer;
+use plan::FrameState;
+use slot::SlotRead;
 use test_lines::field;
 
 // Which slot the line is about.
@@ -10,8 +12,7 @@ fn title(rate: u16, slot: u16) {
 }
 
 // The register after the slot, and the digest of the octets that the call wrote or left.
-fn end(answer: Answer, octets: &[u8]) {
-    let state = answer.state;
+fn end(state: FrameState, octets: &[u8]) {
     field(b" register ", state.register as u64);
     field(b" digest ", test_samples::digest(octets));
     io::write_all(STDOUT_FILENO, b"\n");
@@ -20,14 +21,17 @@ fn end(answer: Answer, octets: &[u8]) {
 pub fn coded(rate: u16, slot: u16, answer: Answer, octets: &[u8]) {
     title(rate, slot);
     field(b" coded ", answer.number as u64);
-    end(answer, octets);
+    let state = answer.state;
+    end(state, octets);
 }
 
-// What was read: the damage, the reader's number and that of the lone parity check.
-pub fn read(rate: u16, slot: u16, damage: &[u8], answer: Answer, check: u8, octets: &[u8]) {
+// What was read: the damage, the reader's number and the stuff bits, and the number of the lone parity check.
+pub fn read(rate: u16, slot: u16, damage: &[u8], answer: SlotRead, check: u8, octets: &[u8]) {
     title(rate, slot);
     io::write_all(STDOUT_FILENO, damage);
     field(b" read ", answer.number as u64);
+    field(b" stuff ", answer.stuff as u64);
     field(b" check ", check as u64);
-    end(answer, octets);
+    let state = answer.state;
+    end(state, octets);
 }

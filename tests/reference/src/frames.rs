@@ -40,8 +40,9 @@ fn damaged_frame(coded: &[u8]) -> Vec<u8> {
 }
 
 fn print_read(title: &str, plan: &[Group], coded: &[u8]) {
-    let (number, [answers, _, source]) = read_frame(plan, coded);
-    println!("{title} read {number} answers {} digest {}", digest(&answers), digest(&source));
+    let (number, areas) = read_frame(plan, coded);
+    let [answers, stuff, source] = areas.map(|octets| digest(&octets));
+    println!("{title} read {number} answers {answers} stuff {stuff} digest {source}");
 }
 
 fn print_frame(number: u64, plan: &[Group]) {

@@ -2,7 +2,7 @@
 //! and read with one bit damaged.
 use crate::ldpc;
 use crate::samples::{digest, octets, MASK, START};
-use crate::slot::{bits_of, code_slot, octets_of, read_slot, Code, PARITY_WRONG};
+use crate::slot::{bits_of, code_slot, octets_of, read_slot, Code, NO_STUFF, PARITY_WRONG};
 use crate::tables::tables;
 
 /// A slot, or another run of octets, where the first bit of an octet is the other one.
@@ -20,14 +20,15 @@ pub fn with_parity_anew(code: &Code, coded: &[u8]) -> Vec<u8> {
     octets_of(&bits)
 }
 
-/// What reading a slot gives: number, register after it, the digest of the octets read, or of those found where it is
-/// refused; and the number of the lone parity check.
+/// What reading a slot gives: number, stuff bits, register after it, the digest of the octets read, or of those found where it
+/// is refused; and the number of the lone parity check.
 fn read_line(title: &str, code: &Code, register: u32, coded: &[u8]) {
     let (read, after) = read_slot(code, MASK, register, coded);
     let check = if with_parity_anew(code, coded) == coded { 0 } else { PARITY_WRONG };
     let number = read.as_ref().err().copied().unwrap_or(0);
+    let stuff = read.as_ref().map_or(NO_STUFF, |read| read.stuff);
     let source = read.map_or_else(|_| octets(0, code.message_bits() / 8), |read| read.source);
-    println!("{title} read {number} check {check} register {after} digest {}", digest(&source));
+    println!("{title} read {number} stuff {stuff} check {check} register {after} digest {}", digest(&source));
 }
 
 fn slot_lines(title: &str, code: &Code, register: u32, source: &[u8]) -> u32 {

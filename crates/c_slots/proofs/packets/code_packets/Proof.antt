@@ -35,7 +35,7 @@ returns : tie.Need-returns
 returns c =
     let a = c .before .before .before .before .before .before .before .before .before .before .before .args in
     coded-given (planOf (a .plan .now)) (a .mask) (a .start) (a .slot) (a .register) (a .table .now) (a .header .now) (a .packets .now) (a .coded .now) (a .next .now) _ _ _
-    (packets-not-coded _ _ _ _ _ _ _ (c .if1 .taken) (number (c .before)))
+    (packets-not-coded _ _ _ _ _ _ (c .if1 .taken) _ (number (c .before)))
 
 put-moved-requires : tie.Need-put-moved-requires
 put-moved-requires c κs = next-two _ (then-zero (laidNumber _ _ _) _ (none (c .before .before .before .before .before .before)) .1)

@@ -4,15 +4,16 @@ use borrow.Author.Needs.{needs}
 use lib.ListN.{length}
 use Rattle.refusal.specs.AnswerLaws.{refused, accepted}
 use Rattle.frame.specs.Frames.{frameNumber}
-use Rattle.frame.specs.CallLaws.{frame-lent, read-frame}
+use Rattle.frame.specs.CallLaws.{frame-lent}
 use Rattle.frame_coder.proofs.code.code_frame.Statement.{statement}
 use Rattle.frame_coder.proofs.code.code_frame.Tie as tie
 
--- the number is that of a call without answers
+-- the number is that of a coding call
 number-is : (c : tie.After-frame-number)
     → let a = c .before .before .before .before .before .args in
     c .frame-number .result ≡ frameNumber (a .plan) (a .mask) (a .start) (a .tables .now) (length (a .source .now)) (length (a .frame .now))
-number-is c = c .frame-number .ensures .0 ∙ read-frame _ _ _ _ _ _
+unfolding frameNumber
+number-is c = c .frame-number .ensures .0
 
 returns : tie.Need-returns
 returns c = refused _ _ _ _ (number-is (c .before .before)) (c .if1 .taken)

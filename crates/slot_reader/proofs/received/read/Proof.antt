@@ -1,25 +1,22 @@
--- `slot_reader::received::read`: a codeword read, whose stuff bits are tested and whose message is taken where it is sound.
+-- `slot_reader::received::read`: a codeword read, whose message and stuff bits are taken where it is sound.
 use mathlib.Core.Path.{_≡_, sym, ap, _∙_}
 use Prim.Native.Nat.{ℕ, _-_, _≤_}
 use native.Mathlib.Omega.{arith}
 use mathlib.Core.List.{List}
-use lib.Dec.{eqb}
 use lib.ListN.{length, take}
 use lib.Seq.{length-take-le}
 use borrow.Author.Needs.{needs}
-use borrow.Author.Tests.{ne-eqb}
-use Rattle.lists.specs.Choice.{pick}
-use Rattle.lists.specs.ChoiceLaws.{then-first, then-next}
+use borrow.Author.Tests.{eq-eqb, ne-eqb}
 use Rattle.lists.specs.PartLaws.{take-lent}
-use Rattle.refusal.specs.Numbers.{STUFF}
+use Rattle.bits.specs.Digits.{number}
 use Rattle.bits.specs.Octets.{octetsOf}
 use Rattle.codeword.specs.Words.{runBits}
-use Rattle.codeword.specs.Reading.{takenOff, messageIn, wordNumber}
+use Rattle.codeword.specs.Reading.{takenOff, messageIn, tailIn, wordNumber}
 use Rattle.codeword.specs.ReadingLaws.{takenOff-bits}
 use Rattle.codeword.specs.Needs.{ReadOf as ReadWord}
 use Rattle.slot.specs.Slots.{sourceOctets, slotShape}
 use Rattle.slot.specs.SlotLaws.{sizes, fits, register-after}
-use Rattle.slot.specs.Reading.{stuffRight, receivedNumber, sourceOf}
+use Rattle.slot.specs.Reading.{receivedNumber, stuffIn, sourceOf}
 use Rattle.slot.specs.Areas.{areas}
 use Rattle.slot_reader.proofs.received.read.Statement.{statement}
 use Rattle.slot_reader.proofs.received.read.Tie as tie
@@ -70,11 +67,12 @@ returns c =
     let s = w .before .before .before .before .before .before .before .before .before .before .before .before in
     let a = s .args in
     let o = word w in
-    let z = then-first _ _ (λ e. c .if1 .taken (o .number ∙ e)) in
+    let z = ne-eqb _ 0 (λ e. c .if1 .taken (o .number ∙ e)) in
     record {
-      number = o .number ∙ sym z;
+      number = o .number;
       register = o .register ∙ register-after (a .rows) (a .mask) (a .register) (s .pre .checked .rate);
-      area = rw (z, ← o .number, ne-eqb _ 0 (c .if1 .taken));
+      stuff = rw z;
+      area = rw z;
     }
 
 take-source-requires : tie.Need-take-source-requires
@@ -91,7 +89,7 @@ take-source-requires c κs =
     }
 
 returns-2 : tie.Need-returns-2
-unfolding receivedNumber sourceOf
+unfolding receivedNumber stuffIn sourceOf
 returns-2 c =
     let t = c .before .before in
     let e = t .before .before .before .before in
@@ -100,14 +98,14 @@ returns-2 c =
     let a = s .args in
     let o = word w in
     let F = slotShape (a .rows) in
-    let z = then-next (wordNumber F (a .table .now) (a .mask) (a .register) (a .coded .now)) (pick (stuffRight (a .rows) (takenOff F (a .mask) (a .register) (a .coded .now))) 0 STUFF) (sym (o .number) ∙ e .if1 .left) in
+    let n : wordNumber F (a .table .now) (a .mask) (a .register) (a .coded .now) ≡ 0 = sym (o .number) ∙ e .if1 .left in
+    let z = eq-eqb _ 0 n in
     let v = t .take-source .ensures in
     record {
-      number = v .number ∙ ap (λ (u : List ℕ). pick (stuffRight (a .rows) u) 0 STUFF) (lent w) ∙ sym z;
+      number = sym n;
       register = o .register ∙ register-after (a .rows) (a .mask) (a .register) (s .pre .checked .rate);
-      area = v .area
-          ∙ ap (λ (u : List ℕ). pick (eqb (pick (stuffRight (a .rows) u) 0 STUFF) 0) (octetsOf (sourceOctets (a .rows)) (messageIn F u)) (a .source .now)) (lent w)
-          ∙ ap (λ (n : ℕ). pick (eqb n 0) (sourceOf (a .rows) (a .mask) (a .register) (a .coded .now)) (a .source .now)) (sym z);
+      stuff = rw z (v .0 ∙ ap (λ (u : List ℕ). number 6 (tailIn F u)) (lent w));
+      area = rw z (v .1 ∙ ap (λ (u : List ℕ). octetsOf (sourceOctets (a .rows)) (messageIn F u)) (lent w));
     }
 
 pub read-spec : {M : Type 1} → statement M

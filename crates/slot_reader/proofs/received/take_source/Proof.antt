@@ -1,52 +1,25 @@
--- `slot_reader::received::take_source`: the stuff bits decide between the octets and the area as it was.
+-- `slot_reader::received::take_source`: the octets of the bits before the BCH bits, and the number of those behind them.
 use mathlib.Core.Path.{_≡_, ap₂, _∙_}
 use Prim.Native.Nat.{_+_, _-_}
 use native.Mathlib.Omega.{arith}
 use lib.ListN.{length}
 use lib.Seq.{length-take-le}
 use borrow.Author.Needs.{needs}
-use borrow.Author.Tests.{eq-eqb, ne-eqb}
 use Rattle.lists.specs.Parts.{part}
 use Rattle.lists.specs.PartLaws.{length-part, part-rest, take-lent}
-use Rattle.lists.specs.RunLaws.{below-take, below-part}
-use Rattle.refusal.specs.AnswerLaws.{refused, accepted}
+use Rattle.lists.specs.RunLaws.{below-take, below-part, below-drop}
 use Rattle.bits.specs.Digits.{number}
+use Rattle.bits.specs.DigitLaws.{number-lt}
 use Rattle.bits.specs.Octets.{octetsOf}
 use Rattle.codeword.specs.Reading.{tailIn}
 use Rattle.slot.specs.Slots.{messageBits, slotShape}
 use Rattle.slot.specs.SlotLaws.{sizes}
-use Rattle.slot.specs.Reading.{stuffRight}
 use Rattle.slot_reader.proofs.received.take_source.Statement.{statement}
 use Rattle.slot_reader.proofs.received.take_source.Tie as tie
 
--- the stuff bits as a number
-stuffed : (c : tie.After-gather) → let a = c .before .before .before .before .before .args in c .gather .result ≡ number 6 (tailIn (slotShape (a .rows)) (a .plain .now))
-stuffed c =
-    let k = c .before .before in
-    let s = k .before .before .before in
-    let u = s .args .plain .now in
-    let m = k .message-bits .result in
-    let n : length (part (m + 192) (length u) u) ≡ 6 = length-part (m + 192) (length u) u (omega arith) ∙ omega (arith, k .message-bits .ensures, s .pre .all) in
-    c .gather .ensures ∙ rw (n, part-rest (m + 192) u, k .message-bits .ensures)
-
-gather-requires : tie.Need-gather-requires
-gather-requires c κs =
-    let k = c .before in
-    let s = k .before .before .before in
-    let u = s .args .plain .now in
-    let m = k .message-bits .result in
-    record {
-      few = omega (arith, length-part (m + 192) (length u) u (omega arith), k .message-bits .ensures, s .pre .all);
-      bits = below-part 1 (m + 192) (length u) u (s .pre .bits);
-    }
-
-returns : tie.Need-returns
-unfolding stuffRight
-returns c = refused _ _ _ _ (rw (← stuffed (c .before), ne-eqb _ 63 (c .if1 .taken))) (λ e. omega (arith, e))
-
 collect-requires : tie.Need-collect-requires
 collect-requires c κs =
-    let k = c .before .before .before .before .before in
+    let k = c .before .before in
     let s = k .before .before .before in
     let u = s .args .plain .now in
     let m = k .message-bits .result in
@@ -57,16 +30,59 @@ collect-requires c κs =
       bits = below-take 1 (m - 0) u (s .pre .bits);
     }
 
-returns-2 : tie.Need-returns-2
-unfolding stuffRight
-returns-2 c =
-    let o = c .before .before in
-    let e = o .before .before .before in
-    let k = e .before .before .before in
+gather-requires : tie.Need-gather-requires
+gather-requires c κs =
+    let k = c .before .before .before .before .before .before in
     let s = k .before .before .before in
-    let a = s .args in
-    accepted _ _ _ _ (rw (← stuffed (e .before), eq-eqb _ 63 (e .if1 .left)))
-    (o .collect .ensures ∙ ap₂ octetsOf (s .pre .long) (take-lent _ (messageBits (a .rows)) (a .plain .now) (k .message-bits .ensures)))
+    let u = s .args .plain .now in
+    let m = k .message-bits .result in
+    record {
+      few = omega (arith, length-part (m + 192) (length u) u (omega arith), k .message-bits .ensures, s .pre .all);
+      bits = below-part 1 (m + 192) (length u) u (s .pre .bits);
+    }
+
+-- the stuff bits as a number
+stuffed : (c : tie.After-gather)
+    → let a = c .before .before .before .before .before .before .before .before .before .before .args in
+    c .gather .result ≡ number 6 (tailIn (slotShape (a .rows)) (a .plain .now))
+stuffed c =
+    let k = c .before .before .before .before .before .before .before in
+    let s = k .before .before .before in
+    let u = s .args .plain .now in
+    let m = k .message-bits .result in
+    let n : length (part (m + 192) (length u) u) ≡ 6 = length-part (m + 192) (length u) u (omega arith) ∙ omega (arith, k .message-bits .ensures, s .pre .all) in
+    c .gather .ensures ∙ rw (n, part-rest (m + 192) u, k .message-bits .ensures)
+
+cast-result : tie.Need-cast-result
+cast-result c =
+    let s = c .before .before .before .before .before .before .before .before .before .before in
+    let u = tailIn (slotShape (s .args .rows)) (s .args .plain .now) in
+    omega (arith, stuffed c, number-lt 6 u (below-drop 1 (messageBits (s .args .rows) + 192) (s .args .plain .now) (s .pre .bits)))
+
+returns : tie.Need-returns
+returns c =
+    let o = c .before .before .before .before in
+    let k = o .before .before .before in
+    let s = k .before .before .before in
+    let a = s .args in (
+      stuffed c,
+      o .collect .ensures ∙ ap₂ octetsOf (s .pre .long) (take-lent _ (messageBits (a .rows)) (a .plain .now) (k .message-bits .ensures)),
+    )
 
 pub take-source-spec : {M : Type 1} → statement M
-take-source-spec = tie.close (tie.spec (λ c κs. search needs) (λ c. let s = c .before .before .before in let z = sizes _ (s .pre .rate) in omega (arith, c .message-bits .ensures, z .covered, z .all)) (λ c. search needs) (λ c. search needs) (λ c. search needs) gather-requires returns (λ c. search needs) (λ c. search needs) (λ c. search needs) collect-requires (λ c. search needs) returns-2)
+take-source-spec =
+    tie.close
+    (tie.spec
+    (λ c κs. search needs)
+    (λ c. search needs)
+    (λ c. search needs)
+    (λ c. search needs)
+    (λ c. search needs)
+    collect-requires
+    (λ c. search needs)
+    (λ c. search needs)
+    (λ c. search needs)
+    gather-requires
+    cast-result
+    (λ c. search needs)
+    returns)

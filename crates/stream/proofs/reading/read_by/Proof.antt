@@ -8,9 +8,9 @@ use lib.ListN.{length, take, drop}
 use lib.Seq.{length-take-le}
 use Rattle.lists.specs.Parts.{part}
 use Rattle.lists.specs.PartLaws.{length-part, part-rest}
-use Rattle.plan.specs.declared.Answer.{Answer}
 use Rattle.plan.specs.Rates.{dataOctetsOf, packetsOf}
 use Rattle.packets.specs.Packets.{unpacked}
+use Rattle.slot.specs.declared.SlotRead.{SlotRead}
 use Rattle.slot.specs.Reading.{sourceOf}
 use Rattle.slot.specs.ReadingLaws.{sourceOf-source}
 use Rattle.slot.specs.Calls.{rowsAt}
@@ -38,7 +38,7 @@ source : (c : tie.Else1)
     k .read-slot .last .1 .1 .1 .0 ≡ sourceOf (rowsAt (a .state)) (a .state .mask) (a .state .register) (a .coded .now)
 source c =
     let k = c .before .before .before .before in
-    k .read-slot .ensures .1 ∙ slot-source _ _ _ _ (ap (λ (x : Answer). x .number) (sym (k .read-slot .ensures .0)) ∙ omega (arith, c .if1 .left))
+    k .read-slot .ensures .1 ∙ slot-source _ _ _ _ (ap (λ (x : SlotRead). x .number) (sym (k .read-slot .ensures .0)) ∙ omega (arith, c .if1 .left))
 
 long : (c : tie.Else1)
     → let k = c .before .before .before .before in
