@@ -158,12 +158,12 @@ answer-at p ts mask start frame k h = getD-table 120 (λ i. answerAt (stateBefor
 -- and its stuff bits
 pub length-stuffsOf : (p : Plan) (ts : List ℕ) (mask start : ℕ) (frame : List ℕ) → length (stuffsOf p ts mask start frame) ≡ 120
 unfolding stuffsOf
-length-stuffsOf p ts mask start frame = length-table 120 (λ k. stuffAt (stateBefore p mask start k) ts (slotIn frame k))
+length-stuffsOf p ts mask start frame = length-table 120 _
 
 pub stuff-at : (p : Plan) (ts : List ℕ) (mask start : ℕ) (frame : List ℕ) (k : ℕ) → k < 120
     → getD (stuffsOf p ts mask start frame) k 0 ≡ stuffAt (stateBefore p mask start k) ts (slotIn frame k)
 unfolding stuffsOf
-stuff-at p ts mask start frame k h = getD-table 120 (λ i. stuffAt (stateBefore p mask start i) ts (slotIn frame i)) k h
+stuff-at p ts mask start frame k h = getD-table 120 _ k h
 
 module _ (p : Plan) (ts : List ℕ) (mask start : ℕ) (frame found : List ℕ) (l : length found ≡ sourceFrom p 120) where
   sources : ℕ → List ℕ

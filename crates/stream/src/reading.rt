@@ -33,7 +33,8 @@ fn read_by(
     answer
 }
 
-// Reads header and packets of the state's next slot, with read_slot's number, state and stuff bits: both, or the areas as they were.
+// Reads header and packets of the state's next slot, with read_slot's number, state and stuff bits: both, or the areas as they
+// were.
 pub fn read_packets(
     state: FrameState,
     table: &[u16],

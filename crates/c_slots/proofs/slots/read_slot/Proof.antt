@@ -1,4 +1,5 @@
--- `c_slots::read_slot`: the place, `report` and `next` decide, then the call behind it, for the slot number as it was handed over.
+-- `c_slots::read_slot`: the place, `report` and `next` decide, then the call behind it, for the slot number as it was handed
+-- over.
 use mathlib.Core.Path.{_≡_, sym, ap, _∙_}
 use Prim.Native.Nat.{ℕ}
 use borrow.Author.Needs.{needs}
