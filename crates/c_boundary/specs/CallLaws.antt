@@ -24,7 +24,7 @@ use Rattle.slot.specs.Reading.{stuffIn, noStuff, stuffWith, sourceOf}
 use Rattle.slot.specs.Calls.{rowsAt, dataNumber, slotNumber, nextState, codeAnswer, codeArea, readNumber, readAnswer, readArea}
 use Rattle.c_boundary.specs.Narrow.{narrowed}
 use Rattle.c_boundary.specs.NarrowLaws.{as-given, both-refuse}
-use Rattle.c_boundary.specs.Calls.{placed, nextNumber, passCall, reported, reportLong, reportNumber, reportLeft, returnedNumber, slotCall, readCall, Coded, Received}
+use Rattle.c_boundary.specs.Calls.{placed, nextNumber, passCall, reportLong, reportLeft, returnedNumber, slotCall, readCall, Coded, Received}
 
 pub next-two : (next : List ℕ) → nextNumber next ≡ 0 → length next ≡ 2
 unfolding nextNumber

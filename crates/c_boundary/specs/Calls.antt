@@ -31,21 +31,23 @@ openCall p mask start next = andThen (openNumber p mask start) (nextNumber next)
 unfoldable pub passCall : FrameState → List ℕ → ℕ
 passCall s next = andThen (passNumber s) (nextNumber next)
 
--- what `report` takes of a reading: its stuff bits (document 02, N5)
+-- what `report` takes of a reading: "returns them as a number" (document 02, N5), the stuff bits
 abbrev pub reported : ℕ → List ℕ
 reported stuff = stuff ∷ []
 
+-- one number
 abbrev pub reportLong : ℕ
 reportLong = 1
 
+-- 4: "a lent area isn't exactly its length"
 unfoldable pub reportNumber : List ℕ → ℕ
 reportNumber report = pick (eqb (length report) reportLong) 0 LENGTH
 
--- "An area for returned numbers is written by every answer .. where it has its length"
+-- what every answer leaves in it, a refusal too ("255 with a refusal"); where it has another length it is left as found
 abbrev pub reportLeft : List ℕ → ℕ → List ℕ
 reportLeft report stuff = pick (eqb (length report) reportLong) (reported stuff) report
 
--- the areas of numbers that a reading returns
+-- 4 for both areas of numbers that a reading returns
 abbrev pub returnedNumber : List ℕ → List ℕ → ℕ
 returnedNumber report next = andThen (reportNumber report) (nextNumber next)
 

@@ -1,5 +1,4 @@
 -- `c_boundary::with_report`: each way out rewrites with the tests on the way to it.
-use mathlib.Core.Path.{_∙_}
 use borrow.Author.Needs.{needs}
 use borrow.Author.Tests.{eq-eqb, ne-eqb}
 use Rattle.c_boundary.specs.Calls.{reportNumber}
