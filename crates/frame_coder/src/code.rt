@@ -74,6 +74,7 @@ pub fn code_frame(
     ensures { λ r. ⌜ Answered (frameNumber plan mask start (now (tables .entry)) (length (now (source .entry))) (length (now (frame .entry)))) (frameOf plan (now (tables .entry)) mask start (now (source .entry)) (now (frame .entry))) (now (frame .entry)) r (now (frame .exit)) ⌝ }
 {
     let mut ends = [0usize; 9];
+    // Coding is lent no area that has an entry for each slot, so none of a wrong length.
     let number = frame::frame_number(
         plan,
         mask,

@@ -101,18 +101,11 @@ pub fn read_frame(
     ensures { λ r. ⌜ now (answers .exit) ≡ pick (eqb r 0) (answersOf plan (now (tables .entry)) mask start (now (frame .entry))) (now (answers .entry)) ⌝ }
     ensures { λ r. ⌜ now (stuff .exit) ≡ pick (eqb r 0) (stuffsOf plan (now (tables .entry)) mask start (now (frame .entry))) (now (stuff .entry)) ⌝ }
 {
+    let octets = source.len();
+    let area = frame.len();
     let each = each_slot(answers.len(), stuff.len());
     let mut ends = [0usize; 9];
-    let number = frame::frame_number(
-        plan,
-        mask,
-        start,
-        tables,
-        source.len(),
-        frame.len(),
-        each,
-        &mut ends,
-    );
+    let number = frame::frame_number(plan, mask, start, tables, octets, area, each, &mut ends);
     if number != 0 {
         return number;
     }

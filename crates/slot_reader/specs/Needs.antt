@@ -13,10 +13,14 @@ use Rattle.slot.specs.Areas.{Checked}
 use Rattle.slot.specs.Slots.{sourceOctets, slotShape, registerAfter}
 use Rattle.slot.specs.Reading.{receivedNumber, stuffIn, stuffWith, sourceOf}
 
--- what the parity check of a slot is lent, with a register and an area for header and data octets
-pub record Readable (R r : ℕ) (t coded bits input sums source : List ℕ) : Type 0 where
+-- what the parity check of a slot is lent, with a register
+pub record Held (R r : ℕ) (t coded bits input sums : List ℕ) : Type 0 where
   pub checked : Checked R t coded bits input sums
   pub held : r < 2 ^ slotWidth
+
+-- the same, with an area for header and data octets
+pub record Readable (R r : ℕ) (t coded bits input sums source : List ℕ) : Type 0 where
+  pub word : Held R r t coded bits input sums
   pub long : length source ≡ sourceOctets R
 
 -- the bits before the parity, and an area for header and data octets

@@ -3,8 +3,10 @@ ghost use mathlib.Core.Path.{_≡_};
 ghost use Rattle.bits.specs.Digits.{number};
 ghost use Rattle.bits.specs.Octets.{octetsOf};
 ghost use Rattle.codeword.specs.Reading.{messageIn, tailIn};
+ghost use Rattle.codeword.specs.Needs.{ReadOf as ReadWord};
 ghost use Rattle.slot.specs.Slots.{sourceOctets, slotShape};
-ghost use Rattle.slot_reader.specs.Needs.{Taken, Readable, ReadOf};
+ghost use Rattle.slot_reader.specs.Needs.{Taken, Held, Readable, ReadOf};
+use word_reader::WordRead;
 
 // A received slot, read: the refusal of its parity or BCH bits, or 0, the register after it, and its stuff bits.
 pub struct Found {
@@ -25,6 +27,34 @@ fn take_source(rows: usize, plain: &[u8], source: &mut [u8]) -> u8
     bits::gather(&plain[stuff..]) as u8
 }
 
+// The codeword of a slot, read: message, BCH bits and stuff bits are left at the head of the bits' area.
+fn read_codeword(
+    rows: usize,
+    table: &[u16],
+    mask: u32,
+    register: u32,
+    coded: &[u8],
+    bits: &mut [u8],
+    input: &mut [u8],
+    sums: &mut [u8],
+) -> WordRead
+    requires { ⌜ Held rows register (now table) (now coded) (now bits) (now input) (now sums) ⌝ }
+    ensures { λ r. ⌜ ReadWord (slotShape rows) (now (table .entry)) mask register (now (coded .entry)) (r .number) (r .register) (now (bits .exit)) ⌝ }
+{
+    let end = 374 * rows;
+    let positions = 374 * (120 - rows);
+    word_reader::read_word(
+        slot::shape(rows),
+        table,
+        mask,
+        register,
+        coded,
+        bits,
+        &mut input[0..end],
+        &mut sums[0..positions],
+    )
+}
+
 // A slot read: its number, the register after it, and header and data octets and stuff bits where the number is 0.
 pub fn read(
     rows: usize,
@@ -40,20 +70,8 @@ pub fn read(
     requires { ⌜ Readable rows register (now table) (now coded) (now bits) (now input) (now sums) (now source) ⌝ }
     ensures { λ r. ⌜ ReadOf rows (now (table .entry)) mask register (now (coded .entry)) (now (source .entry)) (r .number) (r .register) (r .stuff) (now (source .exit)) ⌝ }
 {
-    let shape = slot::shape(rows);
-    let run = codeword::run_bits(shape);
-    let end = 374 * rows;
-    let positions = 374 * (120 - rows);
-    let word = word_reader::read_word(
-        shape,
-        table,
-        mask,
-        register,
-        coded,
-        bits,
-        &mut input[0..end],
-        &mut sums[0..positions],
-    );
+    let run = codeword::run_bits(slot::shape(rows));
+    let word = read_codeword(rows, table, mask, register, coded, bits, input, sums);
     if word.number != 0 {
         return Found {
             number: word.number,

@@ -46,15 +46,17 @@ read-requires c κs =
     let r = ready (n .before) in
     let e = n .rows-at .ensures in
     record {
-      checked = record {
-        rate = rw e (r .place .rows);
-        table = rw e (r .areas .table);
-        whole = r .areas .coded-long;
-        bits-long = length-replicate {A = ℕ} 44880 0;
-        input-long = length-replicate {A = ℕ} 44880 0;
-        sums-long = length-replicate {A = ℕ} 29546 0;
+      word = record {
+        checked = record {
+          rate = rw e (r .place .rows);
+          table = rw e (r .areas .table);
+          whole = r .areas .coded-long;
+          bits-long = length-replicate {A = ℕ} 44880 0;
+          input-long = length-replicate {A = ℕ} 44880 0;
+          sums-long = length-replicate {A = ℕ} 29546 0;
+        };
+        held = register-is slotWidth (a .state .register) (r .place .ready .sound .register) .high;
       };
-      held = register-is slotWidth (a .state .register) (r .place .ready .sound .register) .high;
       long = r .areas .source-long ∙ ap sourceOctets (sym e);
     }
 

@@ -13,52 +13,37 @@ use Rattle.bits.specs.Octets.{octetsOf}
 use Rattle.codeword.specs.Words.{runBits}
 use Rattle.codeword.specs.Reading.{takenOff, messageIn, tailIn, wordNumber}
 use Rattle.codeword.specs.ReadingLaws.{takenOff-bits}
-use Rattle.codeword.specs.Needs.{ReadOf as ReadWord}
 use Rattle.slot.specs.Slots.{sourceOctets, slotShape}
 use Rattle.slot.specs.SlotLaws.{sizes, fits, register-after}
 use Rattle.slot.specs.Reading.{receivedNumber, stuffIn, sourceOf}
-use Rattle.slot.specs.Areas.{areas}
 use Rattle.slot_reader.proofs.received.read.Statement.{statement}
 use Rattle.slot_reader.proofs.received.read.Tie as tie
-
--- the codeword read
-word : (c : tie.After-read-word)
-    → let a = c .before .before .before .before .before .before .before .before .before .before .before .before .args in
-    ReadWord (slotShape (a .rows)) (a .table .now) (a .mask) (a .register) (a .coded .now) (c .read-word .result .number) (c .read-word .result .register) (c .read-word .last .1 .1 .1 .1 .1 .0)
-word c = rw (c .before .before .before .before .before .shape .ensures) at (c .read-word .ensures)
 
 -- its bits before the parity are within the slot's
 record Within (R run bits : ℕ) : Type 0 where
   is-run : run ≡ runBits (slotShape R)
   room : run ≤ bits
 
-within : (c : tie.After-read-word)
+within : (c : tie.After-read-codeword)
     → let r = c .before .before .before .before in
-    Within (r .before .before .before .before .before .before .before .before .args .rows) (r .run-bits .result) (length (c .read-word .last .1 .1 .1 .1 .1 .0))
+    Within (r .before .before .before .before .before .before .before .before .args .rows) (r .run-bits .result) (length (c .read-codeword .last .1 .1 .1 .1 .1 .0))
 within c =
     let r = c .before .before .before .before in
     let s = r .before .before .before .before .before .before .before .before in
-    let z = sizes (s .args .rows) (s .pre .checked .rate) in
+    let z = sizes (s .args .rows) (s .pre .word .checked .rate) in
     let e : r .run-bits .result ≡ runBits (slotShape (s .args .rows)) = r .run-bits .ensures ∙ ap runBits (r .before .shape .ensures) in
-    record { is-run = e; room = omega (arith, e, z .covered, z .all, c .read-word .kept .1 .1 .1 .1 .1 .0, s .pre .checked .bits-long) }
+    record { is-run = e; room = omega (arith, e, z .covered, z .all, c .read-codeword .kept .1 .1 .1 .1 .1 .0, s .pre .word .checked .bits-long) }
 
-lent : (c : tie.After-read-word)
+lent : (c : tie.After-read-codeword)
     → let r = c .before .before .before .before in
     let a = r .before .before .before .before .before .before .before .before .args in
-    take (r .run-bits .result - 0) (c .read-word .last .1 .1 .1 .1 .1 .0) ≡ takenOff (slotShape (a .rows)) (a .mask) (a .register) (a .coded .now)
+    take (r .run-bits .result - 0) (c .read-codeword .last .1 .1 .1 .1 .1 .0) ≡ takenOff (slotShape (a .rows)) (a .mask) (a .register) (a .coded .now)
 lent c =
     let r = c .before .before .before .before in
-    take-lent (r .run-bits .result) (runBits (slotShape (r .before .before .before .before .before .before .before .before .args .rows))) (c .read-word .last .1 .1 .1 .1 .1 .0) (within c .is-run) ∙ word c .plain
+    take-lent (r .run-bits .result) (runBits (slotShape (r .before .before .before .before .before .before .before .before .args .rows))) (c .read-codeword .last .1 .1 .1 .1 .1 .0) (within c .is-run) ∙ c .read-codeword .ensures .plain
 
 run-bits-requires : tie.Need-run-bits-requires
-run-bits-requires c κs = let s = c .before .before .before .before .before .before .before in rw (c .shape .ensures) (fits (s .args .rows) (s .pre .checked .rate))
-
-read-word-requires : tie.Need-read-word-requires
-read-word-requires c κs =
-    let h = c .before .before .before .before in
-    let s = h .before .before .before .before .before .before .before in
-    let a = s .args in
-    rw (h .shape .ensures) (record { checked = areas (a .rows) (a .table .now) (a .coded .now) (a .bits .now) (a .input .now) (a .sums .now) (s .pre .checked); held = s .pre .held })
+run-bits-requires c κs = let s = c .before .before .before .before .before .before .before in rw (c .shape .ensures) (fits (s .args .rows) (s .pre .word .checked .rate))
 
 returns : tie.Need-returns
 unfolding receivedNumber
@@ -66,11 +51,11 @@ returns c =
     let w = c .before .before .before .before .before .before .before .before in
     let s = w .before .before .before .before .before .before .before .before .before .before .before .before in
     let a = s .args in
-    let o = word w in
+    let o = w .read-codeword .ensures in
     let z = ne-eqb _ 0 (λ e. c .if1 .taken (o .number ∙ e)) in
     record {
       number = o .number;
-      register = o .register ∙ register-after (a .rows) (a .mask) (a .register) (s .pre .checked .rate);
+      register = o .register ∙ register-after (a .rows) (a .mask) (a .register) (s .pre .word .checked .rate);
       stuff = rw z;
       area = rw z;
     }
@@ -82,8 +67,8 @@ take-source-requires c κs =
     let s = r .before .before .before .before .before .before .before .before in
     let a = s .args in
     record {
-      rate = s .pre .checked .rate;
-      all = length-take-le (r .run-bits .result - 0) (w .read-word .last .1 .1 .1 .1 .1 .0) (omega (arith, within w)) ∙ omega (arith, within w);
+      rate = s .pre .word .checked .rate;
+      all = length-take-le (r .run-bits .result - 0) (w .read-codeword .last .1 .1 .1 .1 .1 .0) (omega (arith, within w)) ∙ omega (arith, within w);
       bits = rw (lent w) (takenOff-bits (slotShape (a .rows)) (a .coded .now) (a .mask) (a .register));
       long = s .pre .long;
     }
@@ -96,17 +81,35 @@ returns-2 c =
     let w = e .before .before .before .before .before .before .before .before in
     let s = w .before .before .before .before .before .before .before .before .before .before .before .before in
     let a = s .args in
-    let o = word w in
+    let o = w .read-codeword .ensures in
     let F = slotShape (a .rows) in
     let n : wordNumber F (a .table .now) (a .mask) (a .register) (a .coded .now) ≡ 0 = sym (o .number) ∙ e .if1 .left in
     let z = eq-eqb _ 0 n in
     let v = t .take-source .ensures in
     record {
       number = sym n;
-      register = o .register ∙ register-after (a .rows) (a .mask) (a .register) (s .pre .checked .rate);
+      register = o .register ∙ register-after (a .rows) (a .mask) (a .register) (s .pre .word .checked .rate);
       stuff = rw z (v .0 ∙ ap (λ (u : List ℕ). number 6 (tailIn F u)) (lent w));
       area = rw z (v .1 ∙ ap (λ (u : List ℕ). octetsOf (sourceOctets (a .rows)) (messageIn F u)) (lent w));
     }
 
 pub read-spec : {M : Type 1} → statement M
-read-spec = tie.close (tie.spec (λ c κs. search needs) run-bits-requires (λ c. search needs) (λ c. search needs) (λ c. search needs) (λ c. search needs) (λ c. search needs) (λ c. search needs) (λ c. search needs) (λ c. search needs) (λ c. search needs) read-word-requires (λ c. search needs) (λ c. search needs) (λ c. search needs) returns (λ c. search needs) (λ c. search needs) (λ c. omega (arith, within (c .before .before .before .before .before .before .before .before .before))) take-source-requires (λ c. search needs) (λ c. search needs) (λ c. search needs) (λ c. search needs) returns-2)
+read-spec =
+    tie.close
+    (tie.spec
+    (λ c κs. search needs)
+    run-bits-requires
+    (λ c κs. search needs)
+    (λ c. search needs)
+    (λ c. search needs)
+    (λ c. search needs)
+    returns
+    (λ c. search needs)
+    (λ c. search needs)
+    (λ c. omega (arith, within (c .before .before .before .before .before .before .before .before .before)))
+    take-source-requires
+    (λ c. search needs)
+    (λ c. search needs)
+    (λ c. search needs)
+    (λ c. search needs)
+    returns-2)
