@@ -21,7 +21,7 @@ first zero f = 0
 first (suc n) f = pick (ltb (first n f) n) (first n f) (pick (f n) n (suc n))
 
 -- f 0, .., f (n - 1)
-unfoldable pub table : ℕ → (ℕ → ℕ) → List ℕ
+unfoldable pub table : {A : Type 0} → ℕ → (ℕ → A) → List A
 table zero f = []
 table (suc n) f = table n f ++ (f n ∷ [])
 

@@ -170,18 +170,22 @@ first-same n f g h =
     let w = r .within in
     first-is n f (first n g) (record { within = w; before = λ k l. h k (omega arith) ∙ r .before k l; there = λ l. h (first n g) l ∙ r .there l })
 
-pub length-table : (n : ℕ) (f : ℕ → ℕ) → length (table n f) ≡ n
+pub length-table : {A : Type 0} (n : ℕ) (f : ℕ → A) → length (table n f) ≡ n
 unfolding table
 length-table zero f = refl
 length-table (suc n) f = length-append (table n f) (f n ∷ []) ∙ omega (arith, length-table n f)
 
-pub getD-table : (n : ℕ) (f : ℕ → ℕ) (k : ℕ) → k < n → getD (table n f) k 0 ≡ f k
+-- element k, d being what stands past the end
+pub table-at : {A : Type 0} (d : A) (n : ℕ) (f : ℕ → A) (k : ℕ) → k < n → getD (table n f) k d ≡ f k
 unfolding table
-getD-table zero f k h = absurd (not-suc-le-zero h)
-getD-table (suc n) f k h =
+table-at d zero f k h = absurd (not-suc-le-zero h)
+table-at d (suc n) f k h =
     last-or-below h
-    (λ (w : k ≡ n). rw w (getD-at (table n f) (f n) [] 0 n (length-table n f)))
-    (λ (w : k < n). List·getD-append (table n f) (f n ∷ []) 0 k (omega (arith, length-table n f)) ∙ getD-table n f k w)
+    (λ (w : k ≡ n). rw w (getD-at (table n f) (f n) [] d n (length-table n f)))
+    (λ (w : k < n). List·getD-append (table n f) (f n ∷ []) d k (omega (arith, length-table n f)) ∙ table-at d n f k w)
+
+pub getD-table : (n : ℕ) (f : ℕ → ℕ) (k : ℕ) → k < n → getD (table n f) k 0 ≡ f k
+getD-table = table-at 0
 
 -- a list of n elements that are f's values is their table
 pub table-is : (n : ℕ) (f : ℕ → ℕ) (xs : List ℕ) → length xs ≡ n → ((k : ℕ) → k < n → getD xs k 0 ≡ f k) → xs ≡ table n f

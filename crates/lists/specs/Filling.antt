@@ -5,7 +5,7 @@ use Prim.Native.Nat.{ℕ, _≤_}
 use lib.ListN.{length, take, drop}
 
 -- the first i elements are the goal's, the others those found; the length is kept for the index facts
-pub record Filling (goal found : List ℕ) (i : ℕ) (area : List ℕ) : Type 0 where
+pub record Filling {A : Type 0} (goal found : List A) (i : ℕ) (area : List A) : Type 0 where
   pub long : length goal ≡ length found
   pub within : i ≤ length found
   pub same : length area ≡ length found

@@ -65,3 +65,7 @@ PACKET = 16
 -- 02, N4: "number past the area, wrong mark, edition, sum or a filler not zero"
 abbrev pub BLOCK : ℕ
 BLOCK = 17
+
+-- 02, N6: "an entry used is infinite or not a number"
+abbrev pub COORDINATE : ℕ
+COORDINATE = 18

@@ -30,3 +30,5 @@ pub const TOTAL: u8 = 15;
 pub const PACKET: u8 = 16;
 
 pub const BLOCK: u8 = 17;
+
+pub const COORDINATE: u8 = 18;

@@ -8,3 +8,4 @@ pub use calls::block_of_labels;
 pub use calls::labels_of_block;
 pub use calls::labels_of_slot;
 pub use calls::slot_of_labels;
+pub use numbers::label_number;

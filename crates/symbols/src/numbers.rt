@@ -17,7 +17,7 @@ fn length_number(n: usize, s: usize, octets: usize, labels: usize) -> u8
 }
 
 // The refusal of a label that has more bits than the modulation, or 0.
-fn label_number(modulation: usize, labels: &[u8]) -> u8
+pub fn label_number(modulation: usize, labels: &[u8]) -> u8
     requires { ⌜ modulation ≤ 5 ⌝ }
     ensures { λ r. ⌜ r ≡ labelNumber modulation (now (labels .entry)) ⌝ }
 {
