@@ -1,13 +1,14 @@
--- Laws of labels: lengths, bounds, there and back, and that labels are equal exactly where the bits are.
+-- Laws of labels: how many there are, lengths, bounds, there and back, and that labels are equal exactly where the bits are.
 use mathlib.Core.Path.{_≡_, sym, ap, _∙_}
 use mathlib.Core.Logic.{_↔_}
 use mathlib.Core.Bool.{Bool}
 use mathlib.Core.List.{List, [], append-nil}
-use Prim.Native.Nat.{ℕ, _*_, _^_, _<_}
+use Prim.Native.Nat.{ℕ, _*_, _%_, _^_, _<_, _≤_}
+use native.Mathlib.Nat.{one-mul}
 use native.Mathlib.Decide.{decLt}
 use native.Mathlib.Omega.{arith}
 use lib.ListN.{length, getD, List·getD-eq-default}
-use lib.Pow.{pow-pos}
+use lib.Pow.{pow-pos, shl-exact}
 use lib.Seq.{getD-take}
 use Rattle.lists.specs.Count.{table}
 use Rattle.lists.specs.CountLaws.{length-table, getD-table, table-is}
@@ -19,6 +20,10 @@ use Rattle.bits.specs.OctetLaws.{length-bitsOf, bitsOf-bits, length-octetsOf, o
 use Rattle.symbols.specs.Index.{bitAt, rowOf, placeOf}
 use Rattle.symbols.specs.IndexLaws.{bit-below, row-of-bit, place-of-bit, bit-there, row-below, place-below}
 use Rattle.symbols.specs.Labels.{bitsOfRow, labelsOf, bitsOfLabels, labelsOfOctets, octetsOfLabels}
+
+-- what the code makes of 2^m, by a shift
+pub one-shifted : (m : ℕ) → m ≤ 5 → 1 * 2 ^ m % 2 ^ 64 ≡ 2 ^ m
+one-shifted m h = shl-exact {a = 1} 1 m 64 (omega arith) (omega arith) ∙ one-mul (2 ^ m)
 
 -- a bound that holds of a table's n values holds everywhere
 pub table-below : (n b : ℕ) (f : ℕ → ℕ) → 0 < b → ((k : ℕ) → k < n → f k < b) → (k : ℕ) → getD (table n f) k 0 < b

@@ -2,17 +2,16 @@
 use mathlib.Core.Path.{_≡_, sym, ap, _∙_}
 use mathlib.Core.Bool.{Bool, true, false}
 use mathlib.Core.List.{List}
-use Prim.Native.Nat.{ℕ, _*_, _-_, _%_, _^_, _≤_}
-use native.Mathlib.Nat.{one-mul}
+use Prim.Native.Nat.{ℕ, _-_, _^_, _≤_}
 use native.Mathlib.Omega.{arith}
 use lib.Dec.{ltb}
 use lib.ListN.{length, getD}
-use lib.Pow.{shl-exact}
 use borrow.Author.Needs.{needs}
 use borrow.Author.Tests.{lt-ltb, le-ltb}
 use Rattle.lists.specs.Count.{every}
 use Rattle.lists.specs.CountLaws.{every-none, every-next, every-not}
 use Rattle.symbols.specs.Labels.{labelNumber}
+use Rattle.symbols.specs.LabelLaws.{one-shifted}
 use Rattle.symbols.proofs.numbers.label_number.Statement.{statement}
 use Rattle.symbols.proofs.numbers.label_number.Tie as tie
 
@@ -31,11 +30,8 @@ Inv-loop modulation labels limit r₀ r = Inv modulation labels limit r
 abbrev μ-loop : tie.MeasureT-loop
 μ-loop modulation labels limit r₀ r = length labels - r
 
-shifted : (m : ℕ) → m ≤ 5 → 1 * 2 ^ m % 2 ^ 64 ≡ 2 ^ m
-shifted m h = shl-exact {a = 1} 1 m 64 (omega arith) (omega arith) ∙ one-mul (2 ^ m)
-
 loop-holds : tie.Need-loop-holds Inv-loop μ-loop
-loop-holds c = record { passed = search needs; power = shifted (c .before .args .modulation) (c .before .pre); right = every-none _ }
+loop-holds c = record { passed = search needs; power = one-shifted (c .before .args .modulation) (c .before .pre); right = every-none _ }
 
 returns : tie.Need-returns Inv-loop μ-loop
 unfolding labelNumber

@@ -1,0 +1,16 @@
+-- `points::arranged`: the point of the symbol, turned.
+use mathlib.Core.Path.{_∙_, ap, subst, sym}
+use borrow.Author.Needs.{needs}
+use Rattle.points.specs.declared.PointAnswer.{PointAnswer}
+use Rattle.points.specs.Answers.{Answers}
+use Rattle.points.specs.AnswerLaws.{turned}
+use Rattle.points.proofs.calls.arranged.Statement.{statement}
+use Rattle.points.proofs.calls.arranged.Tie as tie
+
+returns : tie.Need-returns
+returns c =
+    let m = c .before .mapped in
+    rw (c .turned .ensures, ← c .before .before .settings-ok .ensures) (turned _ _ _ _ (m .ensures))
+
+pub arranged-spec : {M : Type 1} → statement M
+arranged-spec = tie.close (tie.spec (λ c κs. search needs) (λ c κs. search needs) (λ c κs. search needs) returns)

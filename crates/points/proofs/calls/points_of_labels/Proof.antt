@@ -1,0 +1,26 @@
+-- `points::points_of_labels`: the number, and where it is 0 both areas filled.
+use mathlib.Core.Path.{_≡_, _∙_, ap, sym}
+use native.Mathlib.Omega.{arith}
+use borrow.Author.Needs.{needs}
+use borrow.Author.Tests.{eq-eqb, ne-eqb}
+use lib.ListN.{length}
+use Rattle.points.specs.NumberLaws.{areas}
+use Rattle.points.proofs.calls.points_of_labels.Statement.{statement}
+use Rattle.points.proofs.calls.points_of_labels.Tie as tie
+
+returns : tie.Need-returns
+returns c =
+    let n = c .before .points-number in
+    let d = ne-eqb (n .result) 0 (c .if1 .taken) in
+    (n .ensures, (rw d, rw d))
+
+put-points-requires : tie.Need-put-points-requires
+put-points-requires c κs =
+    let e = c .before .before in
+    areas _ _ _ _ _ _ _ (sym (e .before .points-number .ensures) ∙ e .if1 .left)
+
+returns-2 : tie.Need-returns-2
+returns-2 c = search needs
+
+pub points-of-labels-spec : {M : Type 1} → statement M
+points-of-labels-spec = tie.close (tie.spec (λ c κs. search needs) returns put-points-requires (λ c. search needs) (λ c. search needs) returns-2)

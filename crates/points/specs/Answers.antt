@@ -1,0 +1,35 @@
+-- What the calls on points answer.
+use mathlib.Core.Path.{_≡_}
+use mathlib.Core.List.{List, [], _∷_}
+use Prim.Native.Nat.{ℕ}
+use lib.Dec.{eqb}
+use lib.Ieee.{Float}
+use Rattle.lists.specs.Choice.{pick}
+use Rattle.points.specs.declared.Point.{Point}
+use Rattle.points.specs.declared.PointAnswer.{PointAnswer}
+use Rattle.points.specs.declared.PointAnswer.the-variants.{At, Refused}
+use Rattle.points.specs.Points.{arrangedOf}
+
+-- "a point with both coordinates": I, then Q
+abbrev pub coordinates : Point → List Float
+coordinates p = p .i ∷ p .q ∷ []
+
+-- document 01, "Each place and its form": "Where an answer is an enum, there is a definition that gives this paper's number and
+-- values for each of its cases"
+abbrev pub numberOf : PointAnswer → ℕ
+numberOf (At p) = 0
+numberOf (Refused n) = n
+
+abbrev pub valuesOf : PointAnswer → List Float
+valuesOf (At p) = coordinates p
+valuesOf (Refused n) = []
+
+-- "The answer is a point with both coordinates, or the refusal": the number is n, and the point p where n is 0
+pub record Answers (n : ℕ) (p : Point) (r : PointAnswer) : Type 0 where
+  pub number : numberOf r ≡ n
+  pub values : valuesOf r ≡ pick (eqb n 0) (coordinates p) []
+
+-- an answer in the signal point arrangement signal: its point "turn[s] by 180 degrees" by the register
+abbrev pub turnedAnswer : ℕ → PointAnswer → PointAnswer
+turnedAnswer register (At p) = At (arrangedOf register p)
+turnedAnswer register (Refused n) = Refused n
