@@ -31,13 +31,13 @@ unfolding nextNumber
 next-two next h = eqb-true (length next) 2 (not-refused (eqb (length next) 2) LENGTH (omega arith) h)
 
 -- one number set in an area of one is all of it
-pub one-set : (xs : List ℕ) (a : ℕ) → length xs ≡ 1 → set xs 0 a ≡ a ∷ []
+pub one-set : {A : Type 0} (xs : List A) (a : A) → length xs ≡ 1 → set xs 0 a ≡ a ∷ []
 one-set [] a h = absurd (omega arith)
 one-set (x ∷ []) a h = refl
 one-set (x ∷ y ∷ xs) a h = absurd (omega arith)
 
 -- two numbers set in an area of two are all of it
-pub two-set : (xs : List ℕ) (a b : ℕ) → length xs ≡ 2 → set (set xs 0 a) 1 b ≡ a ∷ b ∷ []
+pub two-set : {A : Type 0} (xs : List A) (a b : A) → length xs ≡ 2 → set (set xs 0 a) 1 b ≡ a ∷ b ∷ []
 two-set [] a b h = absurd (omega arith)
 two-set (x ∷ []) a b h = absurd (omega arith)
 two-set (x ∷ y ∷ []) a b h = refl

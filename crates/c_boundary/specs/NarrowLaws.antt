@@ -33,6 +33,9 @@ unknown most x l h = rw (le-leb 1 x (omega arith), lt-leb x most (omega arith))
 pub unknown-rate : (x : ℕ) → 255 < x → rateOk x ≡ false
 unknown-rate x h = unknown 11 x (omega arith) h
 
+pub unknown-modulation : (x : ℕ) → 255 < x → modulationOk x ≡ false
+unknown-modulation x h = unknown 5 x (omega arith) h
+
 and-no : (a b : Bool) → b ≡ false → (a && b) ≡ false
 and-no true b h = h
 and-no false b h = refl
@@ -43,15 +46,15 @@ both-given : (P : ℕ → ℕ → Type 0) (m rate : ℕ)
     → P (narrowed m) (narrowed rate)
     → P m rate
 both-given P m rate f p =
-    as-given (λ x. P x rate) m (λ h. f 255 rate m rate refl (rw (unknown 5 m (omega arith) h)))
+    as-given (λ x. P x rate) m (λ h. f 255 rate m rate refl (rw (unknown-modulation m h)))
     (as-given (P (narrowed m)) rate (λ h. f (narrowed m) 255 (narrowed m) rate (and-no (modulationOk (narrowed m)) _ refl) (and-no (modulationOk (narrowed m)) _ (unknown-rate rate h))) p)
 
 -- two calls with the same refusal
-pub both-refuse : (n m : ℕ) (right other found : List ℕ) (r : ℕ) (left : List ℕ) → n ≡ m → (m ≡ 0 → ⊥) → Answered n right found r left → Answered m other found r left
+pub both-refuse : {A : Type 0} (n m : ℕ) (right other found : List A) (r : ℕ) (left : List A) → n ≡ m → (m ≡ 0 → ⊥) → Answered n right found r left → Answered m other found r left
 both-refuse n m right other found r left e h a =
     record { number = a .number ∙ e; area = rw (ne-eqb m 0 h) (rw (e, ne-eqb m 0 h) at (a .area)) }
 
-both-unknown : (n m : ℕ) (right other found : List ℕ) (r : ℕ) (left : List ℕ) → n ≡ PLAN → m ≡ PLAN → Answered n right found r left → Answered m other found r left
+pub both-unknown : {A : Type 0} (n m : ℕ) (right other found : List A) (r : ℕ) (left : List A) → n ≡ PLAN → m ≡ PLAN → Answered n right found r left → Answered m other found r left
 both-unknown n m right other found r left e d =
     both-refuse n m right other found r left (e ∙ sym d) (λ z. omega (arith, d, z))
 

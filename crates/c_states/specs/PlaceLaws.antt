@@ -1,5 +1,5 @@
 -- Laws of places: a slot number above 255 is answered as it was handed over; four numbers set are the area.
-use mathlib.Core.Path.{_≡_, refl, sym, _∙_}
+use mathlib.Core.Path.{_≡_, refl}
 use mathlib.Core.List.{List, [], _∷_}
 use Prim.Native.Nat.{ℕ, _<_}
 use native.Mathlib.Decide.{ℕ-discrete}
@@ -7,8 +7,7 @@ use native.Mathlib.Omega.{arith}
 use borrow.Author.Tests.{lt-leb, eq-eqb, ne-eqb}
 use lib.Dec.{eqb}
 use lib.ListN.{length, set}
-use Rattle.lists.specs.Choice.{pick, andThen}
-use Rattle.lists.specs.ChoiceLaws.{then-next, then-first}
+use Rattle.lists.specs.Choice.{pick}
 use Rattle.plan.specs.declared.Plan.{Plan}
 use Rattle.plan.specs.PlanLaws.{accepted}
 use Rattle.plan.specs.Places.{placeOf}
@@ -17,14 +16,6 @@ use Rattle.lookup.specs.Lookups.{placeNumber, noPlace, placed}
 use Rattle.lookup.specs.LookupLaws.{slot-there}
 use Rattle.c_boundary.specs.Narrow.{narrowed}
 use Rattle.c_boundary.specs.NarrowLaws.{as-given}
-
--- a number before an area that has its length
-pub then-none : (n : ℕ) → andThen n 0 ≡ n
-then-none n = go (ℕ-discrete n 0)
-  where
-    go : Dec (n ≡ 0) → andThen n 0 ≡ n
-    go (yes z) = then-next n 0 z ∙ sym z
-    go (no d) = then-first n 0 d
 
 -- slot numbers past 120 are refused alike
 full-alike : (p : Plan) (x : ℕ) → 255 < x → placeNumber p 255 ≡ placeNumber p x

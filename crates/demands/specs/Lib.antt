@@ -2,6 +2,7 @@ pub mod Statements
 pub mod Requests
 pub mod CardRequests
 pub mod StuffRequests
+pub mod PointRequests
 pub mod DemandTwo
 pub mod DemandThree
 pub mod WorkedByHand
@@ -10,3 +11,4 @@ pub mod TlvRules
 pub mod ParitySteps
 pub mod CardRules
 pub mod StuffRules
+pub mod PointRules

@@ -1,9 +1,8 @@
 // The calls: the point of a symbol, of one of the signal point arrangement signal, the step of that signal's register, and the
 // points of a run of labels.
 ghost use mathlib.Core.Path.{_≡_};
-ghost use lib.Dec.{eqb};
 ghost use lib.ListN.{length};
-ghost use Rattle.lists.specs.Choice.{pick};
+ghost use Rattle.refusal.specs.Answers.{Answered};
 ghost use Rattle.dispersal.specs.Register.{settingsOk};
 ghost use Rattle.points.specs.Points.{pointOf, arrangedOf, arrangedWidth, inPhaseOf, quadratureOf};
 ghost use Rattle.points.specs.Answers.{Answers, turnedAnswer};
@@ -153,9 +152,8 @@ pub fn points_of_labels(
     i: &mut [f32],
     q: &mut [f32],
 ) -> u8
-    ensures { λ r. ⌜ r ≡ pointsNumber modulation symbol (now (labels .entry)) (now (in_phase .entry)) (now (quadrature .entry)) (length (now (i .entry))) (length (now (q .entry))) ⌝ }
-    ensures { λ r. ⌜ now (i .exit) ≡ pick (eqb r 0) (inPhaseOf modulation symbol (now (labels .entry)) (now (in_phase .entry)) (now (quadrature .entry))) (now (i .entry)) ⌝ }
-    ensures { λ r. ⌜ now (q .exit) ≡ pick (eqb r 0) (quadratureOf modulation symbol (now (labels .entry)) (now (in_phase .entry)) (now (quadrature .entry))) (now (q .entry)) ⌝ }
+    ensures { λ r. ⌜ Answered (pointsNumber modulation symbol (now (labels .entry)) (now (in_phase .entry)) (now (quadrature .entry)) (length (now (i .entry))) (length (now (q .entry)))) (inPhaseOf modulation symbol (now (labels .entry)) (now (in_phase .entry)) (now (quadrature .entry))) (now (i .entry)) r (now (i .exit)) ⌝ }
+    ensures { λ r. ⌜ Answered (pointsNumber modulation symbol (now (labels .entry)) (now (in_phase .entry)) (now (quadrature .entry)) (length (now (i .entry))) (length (now (q .entry)))) (quadratureOf modulation symbol (now (labels .entry)) (now (in_phase .entry)) (now (quadrature .entry))) (now (q .entry)) r (now (q .exit)) ⌝ }
 {
     let number = points_number(
         modulation,

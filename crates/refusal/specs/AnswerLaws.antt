@@ -5,8 +5,8 @@ use Prim.Native.Nat.{ℕ}
 use borrow.Author.Tests.{eq-eqb, ne-eqb}
 use Rattle.refusal.specs.Answers.{Answered}
 
-pub refused : (n : ℕ) (right found : List ℕ) (r : ℕ) → r ≡ n → (r ≡ 0 → ⊥) → Answered n right found r found
+pub refused : {A : Type 0} (n : ℕ) (right found : List A) (r : ℕ) → r ≡ n → (r ≡ 0 → ⊥) → Answered n right found r found
 refused n right found r e h = record { number = e; area = rw (ne-eqb n 0 (λ z. h (e ∙ z))) }
 
-pub accepted : (n : ℕ) (right found left : List ℕ) → n ≡ 0 → left ≡ right → Answered n right found 0 left
+pub accepted : {A : Type 0} (n : ℕ) (right found left : List A) → n ≡ 0 → left ≡ right → Answered n right found 0 left
 accepted n right found left e d = record { number = sym e; area = rw (eq-eqb n 0 e) d }

@@ -7,7 +7,7 @@ use Rattle.lists.specs.Choice.{pick}
 
 -- its number r, which is n, and the area that it left: what is right where the number is 0, and as found where it
 -- refuses ("A refusal changes no lent octet")
-pub record Answered (n : ℕ) (right found : List ℕ) (r : ℕ) (left : List ℕ) : Type 0 where
+pub record Answered {A : Type 0} (n : ℕ) (right found : List A) (r : ℕ) (left : List A) : Type 0 where
   pub number : r ≡ n
   pub area : left ≡ pick (eqb n 0) right found
 

@@ -2,6 +2,7 @@
 mod frames;
 mod labels;
 mod packing;
+mod points;
 mod settings;
 mod slots;
 mod states;
@@ -19,6 +20,10 @@ pub use labels::s3_tmcc_of_labels;
 pub use packing::s3_pack;
 pub use packing::s3_packets_of;
 pub use packing::s3_unpack;
+pub use points::s3_arranged_point;
+pub use points::s3_arranged_step;
+pub use points::s3_point;
+pub use points::s3_points;
 pub use settings::s3_read_settings;
 pub use settings::s3_replace_settings;
 pub use slots::s3_check_parity;

@@ -2,11 +2,11 @@
 use mathlib.Core.Path.{_≡_, sym, ap, _∙_}
 use borrow.Author.Needs.{needs}
 use borrow.Author.Tests.{eq-eqb, ne-eqb}
-use Rattle.lists.specs.ChoiceLaws.{then-first, then-next}
+use Rattle.lists.specs.ChoiceLaws.{then-first, then-next, then-none}
 use Rattle.lookup.specs.Lookups.{placeNumber, placed}
 use Rattle.c_boundary.specs.Plans.{planOf}
 use Rattle.c_states.specs.Places.{numbersOf, placeCall}
-use Rattle.c_states.specs.PlaceLaws.{then-none, place-given, group-low}
+use Rattle.c_states.specs.PlaceLaws.{place-given, group-low}
 use Rattle.c_states.proofs.place.Statement.{statement}
 use Rattle.c_states.proofs.place.Tie as tie
 

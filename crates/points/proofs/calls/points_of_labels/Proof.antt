@@ -1,9 +1,7 @@
 -- `points::points_of_labels`: the number, and where it is 0 both areas filled.
-use mathlib.Core.Path.{_≡_, _∙_, ap, sym}
-use native.Mathlib.Omega.{arith}
+use mathlib.Core.Path.{_∙_, sym}
 use borrow.Author.Needs.{needs}
-use borrow.Author.Tests.{eq-eqb, ne-eqb}
-use lib.ListN.{length}
+use Rattle.refusal.specs.AnswerLaws.{refused, accepted}
 use Rattle.points.specs.NumberLaws.{areas}
 use Rattle.points.proofs.calls.points_of_labels.Statement.{statement}
 use Rattle.points.proofs.calls.points_of_labels.Tie as tie
@@ -11,8 +9,7 @@ use Rattle.points.proofs.calls.points_of_labels.Tie as tie
 returns : tie.Need-returns
 returns c =
     let n = c .before .points-number in
-    let d = ne-eqb (n .result) 0 (c .if1 .taken) in
-    (n .ensures, (rw d, rw d))
+    (refused _ _ _ _ (n .ensures) (c .if1 .taken), refused _ _ _ _ (n .ensures) (c .if1 .taken))
 
 put-points-requires : tie.Need-put-points-requires
 put-points-requires c κs =
@@ -20,7 +17,11 @@ put-points-requires c κs =
     areas _ _ _ _ _ _ _ (sym (e .before .points-number .ensures) ∙ e .if1 .left)
 
 returns-2 : tie.Need-returns-2
-returns-2 c = search needs
+returns-2 c =
+    let p = c .before .before .before .before in
+    let e = p .before .before .before in
+    let z = sym (e .before .points-number .ensures) ∙ e .if1 .left in
+    (accepted _ _ _ _ z (p .put-points .ensures .0), accepted _ _ _ _ z (p .put-points .ensures .1))
 
 pub points-of-labels-spec : {M : Type 1} → statement M
 points-of-labels-spec = tie.close (tie.spec (λ c κs. search needs) returns put-points-requires (λ c. search needs) (λ c. search needs) returns-2)

@@ -1,0 +1,195 @@
+-- Document 02, N6, proved.
+use mathlib.Core.Path.{_≡_, refl, sym, ap, ap₂, _∙_}
+use mathlib.Core.Bool.{Bool, true, false, not, _&&_, _||_, false≢true}
+use mathlib.Core.List.{List, [], _∷_}
+use mathlib.Core.Logic.{_⊎_, inl, inr}
+use Prim.Native.Nat.{ℕ, _+_, _*_, _%_, _^_, _<_}
+use native.Mathlib.Decide.{ℕ-discrete}
+use native.Mathlib.Omega.{arith}
+use borrow.Author.Tests.{eq-eqb, ne-eqb, eqb-true, ltb-true, lt-ltb}
+use lib.Dec.{T, eqb, ltb}
+use lib.Ieee.{Float, nan, inf, fin, binary32, neg, isNan, fits, toBits, ofBits, top as signWeight}
+use lib.Ieee.Bits.{toBits-lt}
+use lib.Ieee.Fits.{neg-fits}
+use lib.IntN.{ℤ}
+use lib.ListN.{length, getD}
+use Rattle.lists.specs.Choice.{pick, andThen}
+use Rattle.lists.specs.ChoiceLaws.{pick-each, and-left, and-right, and-both, or-true, then-zero, then-both, not-refused}
+use Rattle.lists.specs.Count.{every}
+use Rattle.lists.specs.CountLaws.{every-at, every-all}
+use Rattle.refusal.specs.Numbers.{PLAN, LENGTH, REGISTER, LABEL, COORDINATE}
+use Rattle.dispersal.specs.Register.{step, top, maskOk, registerOk, settingsOk}
+use Rattle.dispersal.specs.RegisterLaws.{after-none, after-more, after-ok}
+use Rattle.plan.specs.Rates.{modulationOk}
+use Rattle.symbols.specs.Labels.{labelNumber}
+use Rattle.points.specs.declared.Point.{Point}
+use Rattle.points.specs.declared.PointAnswer.{PointAnswer}
+use Rattle.points.specs.declared.PointAnswer.the-variants.{At, Refused}
+use Rattle.points.specs.Points.{quarterTurn, halfTurn, lentPoint, bpsk, shifted, pointOf, arrangedWidth, arrangedOf, inPhaseOf, quadratureOf, usedOk}
+use Rattle.points.specs.PointLaws.{length-in-phase, length-quadrature, in-phase-at, quadrature-at}
+use Rattle.points.specs.Answers.{coordinates, Answers}
+use Rattle.points.specs.AnswerLaws.{same-point}
+use Rattle.points.specs.Numbers.{symbolOk, lentOk, lentNumber, mappedNumber, roomOk, usedNumber, pointNumber, arrangedNumber, pointsNumber, stepAnswer}
+use Rattle.points.specs.NumberLaws.{Lent, lent}
+use Rattle.demands.specs.PointRequests.{PointOrRefusal, OneAnswer, SymbolsTurned, ArrangedTurned, ArrangedStepped, EntryOrNegation, CoordinatesLent, SignsTurned, CoordinatesExact, TurnsBack, InOrder, PointsRefused, UnusedUnseen, OneByOne, RunOneByOne}
+
+pub one-answer : OneAnswer
+one-answer n p (At r) a =
+    let z : n ≡ 0 = sym (a .number) in
+    let e : coordinates r ≡ coordinates p = rw (eq-eqb n 0 z) at (a .values) in
+    record { accepted = λ y. ap At (same-point r p e); refused = λ d. absurd (d z) }
+one-answer n p (Refused k) a =
+    record {
+      accepted = λ z. let e : [] ≡ coordinates p = rw (eq-eqb n 0 z) at (a .values) in let x : _≡_ {A = ℕ} 0 1 = cc in absurd (omega arith);
+      refused = λ d. ap Refused (a .number);
+    }
+
+pub symbols-turned : SymbolsTurned
+unfolding pointOf shifted
+symbols-turned =
+    record {
+      odd = λ k ins quads label. rw (ne-eqb ((1 + 2 * k) % 2) 0 (λ e. omega arith));
+      even = λ k ins quads label. rw (eq-eqb ((2 + 2 * k) % 2) 0 (omega arith));
+      others = λ m symbol ins quads label d. rw (ne-eqb m 1 d);
+    }
+
+pub arranged-turned : ArrangedTurned
+unfolding arrangedOf
+arranged-turned =
+    record {
+      one = λ register p e. rw (eq-eqb (top arrangedWidth register) 1 e);
+      zero = λ register p e. rw (ne-eqb (top arrangedWidth register) 1 (λ z. omega (arith, e, z)));
+    }
+
+pub arranged-stepped : ArrangedStepped
+unfolding stepAnswer
+arranged-stepped mask register =
+    record {
+      stepped = λ t. rw t;
+      refused = λ f. rw f;
+      again = λ t.
+          let m = and-left (maskOk arrangedWidth mask) _ t in
+          let r = after-ok arrangedWidth mask register 1 (omega arith) m (and-right (maskOk arrangedWidth mask) _ t) in
+          rw t (and-both (maskOk arrangedWidth mask) _ m (rw (after-more arrangedWidth mask register 0, after-none) at r));
+    }
+
+twice : (x : Float) → neg (neg x) ≡ x
+unfolding neg
+twice nan = refl
+twice (inf true) = refl
+twice (inf false) = refl
+twice (fin true m e) = refl
+twice (fin false m e) = refl
+
+-- the negation of an entry or of its negation is one too
+negated : (ins quads : List Float) (label : ℕ) (x : Float) → EntryOrNegation ins quads label x → EntryOrNegation ins quads label (neg x)
+negated ins quads label x (inl (inl e)) = inl (inr (ap neg e))
+negated ins quads label x (inl (inr e)) = inl (inl (ap neg e ∙ twice _))
+negated ins quads label x (inr (inl e)) = inr (inr (ap neg e))
+negated ins quads label x (inr (inr e)) = inr (inl (ap neg e ∙ twice _))
+
+coordinates-lent : (m symbol : ℕ) (ins quads : List Float) (label : ℕ) → CoordinatesLent m symbol ins quads label
+unfolding pointOf shifted arrangedOf
+coordinates-lent m symbol ins quads label =
+    let t = eqb m bpsk && eqb (symbol % 2) 0 in
+    let l = lentPoint ins quads label in
+    let i : EntryOrNegation ins quads label (pointOf m symbol ins quads label .i)
+    = pick-each (λ (p : Point). EntryOrNegation ins quads label (p .i)) t {a = quarterTurn l} {b = l} (inr (inr refl)) (inl (inl refl)) in
+    let q : EntryOrNegation ins quads label (pointOf m symbol ins quads label .q)
+    = pick-each (λ (p : Point). EntryOrNegation ins quads label (p .q)) t {a = quarterTurn l} {b = l} (inl (inl refl)) (inr (inl refl)) in
+    let p = pointOf m symbol ins quads label in
+    record {
+      i = i;
+      q = q;
+      arranged-i = λ register. pick-each (λ (x : Point). EntryOrNegation ins quads label (x .i)) (eqb (top arrangedWidth register) 1) {a = halfTurn p} {b = p} (negated _ _ _ _ i) i;
+      arranged-q = λ register. pick-each (λ (x : Point). EntryOrNegation ins quads label (x .q)) (eqb (top arrangedWidth register) 1) {a = halfTurn p} {b = p} (negated _ _ _ _ q) q;
+    }
+
+-- the sign stands in the bit of weight 2^31
+signed : (m : ℕ) (e : ℤ) → toBits binary32 (fin true m e) ≡ 2 ^ 31 + toBits binary32 (fin false m e)
+unfolding toBits
+signed m e = omega arith
+
+signs-turned : SignsTurned
+signs-turned = record { bits = go; zero = refl; minus-zero = refl }
+  where
+    go : (x : Float) → T (fits binary32 x) → isNan x ≡ false → toBits binary32 (neg x) ≡ (toBits binary32 x + 2 ^ 31) % 2 ^ 32
+    go nan f n = ?
+    go (inf true) f n = ?
+    go (inf false) f n = ?
+    go (fin true m e) f n = ?
+    go (fin false m e) f n = ?
+
+pub coordinates-exact : CoordinatesExact
+coordinates-exact = (coordinates-lent, signs-turned)
+
+half-twice : (p : Point) → halfTurn (halfTurn p) ≡ p
+half-twice p = ap₂ (λ (x y : Float). record { i = x; q = y }) (twice (p .i)) (twice (p .q))
+
+pub turns-back : (p : Point) → TurnsBack p
+unfolding arrangedOf
+turns-back p =
+    record {
+      half-turns = half-twice p;
+      by-register = λ register. by-bit (eqb (top arrangedWidth register) 1);
+      quarter-turns = half-twice p;
+      two-quarters = refl;
+    }
+  where
+    by-bit : (t : Bool) → pick t (halfTurn (pick t (halfTurn p) p)) (pick t (halfTurn p) p) ≡ p
+    by-bit true = half-twice p
+    by-bit false = refl
+
+-- five tests, one after the other
+ordered : (a b c d e : Bool) → InOrder a b c d e (andThen (andThen (pick a 0 PLAN) (andThen (pick b 0 REGISTER) (pick c 0 LENGTH))) (andThen (pick d 0 LABEL) (pick e 0 COORDINATE)))
+ordered a b c d e =
+    record {
+      first = λ p. rw p;
+      second = λ p q. rw (p, q);
+      third = λ p q r. rw (p, q, r);
+      fourth = λ p q r s. rw (p, q, r, s);
+      fifth = λ p q r s t. rw (p, q, r, s, t);
+      none = λ p q r s t. rw (p, q, r, s, t);
+    }
+
+and-true : (b : Bool) → (b && true) ≡ b
+and-true true = refl
+and-true false = refl
+
+-- a call on one label whose areas have their lengths
+mapped-ordered : (register : Bool) (m label symbol : ℕ) (ins quads : List Float)
+    → InOrder (modulationOk m) register (lentOk m symbol (length ins) (length quads)) (ltb label (2 ^ m)) (usedOk ins quads label) (mappedNumber register true m label symbol ins quads)
+unfolding mappedNumber lentNumber
+mapped-ordered register m label symbol ins quads =
+    rw (and-true (lentOk m symbol (length ins) (length quads))) (ordered (modulationOk m) register (lentOk m symbol (length ins) (length quads)) (ltb label (2 ^ m)) (usedOk ins quads label))
+
+pub points-refused : PointsRefused
+unfolding pointsNumber lentNumber labelNumber usedNumber lentOk symbolOk
+points-refused =
+    record {
+      point = λ m label symbol ins quads. mapped-ordered true m label symbol ins quads;
+      arranged = λ m label symbol ins quads mask register. mapped-ordered (settingsOk arrangedWidth mask register) m label symbol ins quads;
+      run = λ m symbol labels ins quads i q. ordered (modulationOk m) true (lentOk m symbol (length ins) (length quads) && roomOk (length labels) i q) (every (length labels) (λ r. ltb (getD labels r 0) (2 ^ m))) (every (length labels) (λ r. usedOk ins quads (getD labels r 0)));
+      symbol-0 = λ ins quads. ?;
+      symbol-any = λ m symbol ins quads d. rw (ne-eqb m 1 d);
+    }
+
+pub unused-unseen : UnusedUnseen
+unfolding mappedNumber usedOk pointOf
+unused-unseen m label symbol ins quads ins' quads' k l i q = (rw (k, l, i, q), rw (i, q))
+
+-- a later symbol has a number where the first has
+later : (m symbol r : ℕ) → symbolOk m symbol ≡ true → symbolOk m (symbol + r) ≡ true
+unfolding symbolOk
+later m symbol r h = ?
+
+pub run-one-by-one : RunOneByOne
+run-one-by-one m symbol labels ins quads =
+    record {
+      i-long = length-in-phase m symbol labels ins quads;
+      q-long = length-quadrature m symbol labels ins quads;
+      i = in-phase-at m symbol labels ins quads;
+      q = quadrature-at m symbol labels ins quads;
+      each = ?;
+      all = ?;
+    }
