@@ -36,9 +36,9 @@ struct Lists<'a> {
     quadrature: &'a [f32],
 }
 
-impl Lists<'_> {
+impl<'a> Lists<'a> {
     /// The lists of a modulation, which is tested before all else.
-    fn new<'a>(modulation: usize, in_phase: &'a [f32], quadrature: &'a [f32]) -> Result<Lists<'a>, u8> {
+    fn new(modulation: usize, in_phase: &'a [f32], quadrature: &'a [f32]) -> Result<Lists<'a>, u8> {
         match modulation {
             1..=5 => Ok(Lists { modulation, in_phase, quadrature }),
             _ => Err(PLAN_WRONG),
@@ -125,10 +125,12 @@ pub fn arranged_point(
 
 /// The arrangement signal's register after a symbol. Every answer writes it into an area of one number, 0 with a refusal.
 pub fn arranged_step(mask: u32, register: u32, next: &mut [u32]) -> u8 {
-    let stepped = match next.len() {
-        _ if !allowed(WIDTH, mask, register) => Err(REGISTER_WRONG),
-        1 => Ok(step(WIDTH, mask, register)),
-        _ => Err(LENGTH_WRONG),
+    let stepped = if !allowed(WIDTH, mask, register) {
+        Err(REGISTER_WRONG)
+    } else if next.len() != 1 {
+        Err(LENGTH_WRONG)
+    } else {
+        Ok(step(WIDTH, mask, register))
     };
     if let [next] = next {
         *next = stepped.unwrap_or(0);

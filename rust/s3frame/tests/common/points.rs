@@ -2,6 +2,7 @@
 use super::Random;
 use s3frame::{ArrangedRegister, Constellation, Modulation, Point, TmccSettings};
 use std::fmt;
+use std::ops::Range;
 
 /// The sign among the bits of a coordinate.
 pub const SIGN: u32 = 1 << 31;
@@ -41,47 +42,45 @@ pub fn bits(point: Point) -> [u32; 2] {
     [point.i, point.q].map(f32::to_bits)
 }
 
-/// A modulation and the coordinates of its labels.
+/// A modulation and the coordinates of its labels, in-phase and then quadrature.
 #[derive(Clone, Debug, PartialEq)]
 pub struct Lists {
     pub modulation: Modulation,
-    pub in_phase: Floats,
-    pub quadrature: Floats,
+    pub coordinates: [Floats; 2],
 }
 
 impl Lists {
     /// Finite coordinates of chance.
     pub fn new(random: &mut Random, modulation: Modulation) -> Lists {
-        let [in_phase, quadrature] =
-            [(); 2].map(|()| Floats((0..modulation.points()).map(|_| random.finite()).collect()));
-        Lists { modulation, in_phase, quadrature }
+        let coordinates = [(); 2].map(|()| Floats((0..modulation.points()).map(|_| random.finite()).collect()));
+        Lists { modulation, coordinates }
     }
 
     /// The lists of these points, label by label.
     pub fn of_points(modulation: Modulation, points: &[[u32; 2]]) -> Lists {
         let list = |which: usize| Floats(points.iter().map(|point| f32::from_bits(point[which])).collect());
-        Lists { modulation, in_phase: list(0), quadrature: list(1) }
+        Lists { modulation, coordinates: [0, 1].map(list) }
     }
 
     pub fn lent(&self) -> Constellation<'_> {
-        Constellation { modulation: self.modulation, in_phase: &self.in_phase.0, quadrature: &self.quadrature.0 }
+        let [in_phase, quadrature] = &self.coordinates;
+        Constellation { modulation: self.modulation, in_phase: &in_phase.0, quadrature: &quadrature.0 }
+    }
+
+    pub fn labels(&self) -> Range<u8> {
+        0..self.modulation.points() as u8
     }
 
     /// The bits of a label's entries.
     pub fn entries(&self, label: u8) -> [u32; 2] {
-        [&self.in_phase, &self.quadrature].map(|list| list.0[usize::from(label)].to_bits())
-    }
-
-    pub fn labels(&self) -> std::ops::Range<u8> {
-        0..self.modulation.points() as u8
+        [0, 1].map(|which| self.coordinates[which].0[usize::from(label)].to_bits())
     }
 
     /// Puts what is not finite in place of one or both of a label's entries.
     pub fn spoil(&mut self, random: &mut Random, label: u8) {
-        let which = random.below(3);
-        let lists = [&mut self.in_phase, &mut self.quadrature];
-        for (_, list) in lists.into_iter().enumerate().filter(|(list, _)| which != *list) {
-            list.0[usize::from(label)] = random.not_finite();
+        let spared = random.below(3);
+        for which in (0..2).filter(|&which| which != spared) {
+            self.coordinates[which].0[usize::from(label)] = random.not_finite();
         }
     }
 }

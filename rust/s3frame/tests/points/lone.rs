@@ -1,5 +1,5 @@
 //! Points of lone labels.
-use crate::common::points::{Lists, EDGES, NOT_FINITE, SIGN};
+use crate::common::points::{Lists, NOT_FINITE, SIGN};
 use crate::common::{trials, Counts, Random};
 use crate::point;
 use s3frame::{Modulation, Refusal};
@@ -22,7 +22,7 @@ const KINDS: [&str; 6] = ["zero", "negative zero", "largest", "denormal", "posit
 fn points_are_the_lent_ones_and_even_bpsk_ones_are_turned() {
     let mut random = Random::new(121);
     let (mut lent, mut turned) = (Counts::default(), Counts::default());
-    for modulation in (0..trials(100)).flat_map(|_| Modulation::ALL) {
+    for modulation in (0..trials(400)).flat_map(|_| Modulation::ALL) {
         let lists = Lists::new(&mut random, modulation);
         for label in lists.labels() {
             let ([i, q], symbol) = (lists.entries(label), random.symbol(modulation));
@@ -56,21 +56,26 @@ fn symbols_count_for_bpsk_alone() {
     }
 }
 
-/// Each value of both signs at each entry: it is refused where it is used, and leaves all other labels alone.
+/// The same lists with what is not finite in one place of a label's: each such value, of both signs.
+fn spoilt(lists: &Lists, label: u8) -> Vec<Lists> {
+    let with = |wrong: u32, which: usize| {
+        let mut spoilt = lists.clone();
+        spoilt.coordinates[which].0[usize::from(label)] = f32::from_bits(wrong);
+        spoilt
+    };
+    let values = NOT_FINITE.into_iter().flat_map(|wrong| [wrong, wrong | SIGN]);
+    values.flat_map(|wrong| [0, 1].map(|which| with(wrong, which))).collect()
+}
+
 #[test]
-fn an_entry_is_looked_at_where_it_is_used() {
+fn an_entry_counts_where_it_is_used_and_there_alone() {
     let mut random = Random::new(123);
     for modulation in Modulation::ALL {
         let lists = Lists::new(&mut random, modulation);
-        for (wrong, label) in NOT_FINITE.into_iter().flat_map(|wrong| lists.labels().map(move |label| (wrong, label))) {
-            for (sign, list) in [(0, 0), (SIGN, 0), (0, 1), (SIGN, 1)] {
-                let mut spoilt = lists.clone();
-                let list = [&mut spoilt.in_phase, &mut spoilt.quadrature].into_iter().nth(list).expect("two lists");
-                list.0[usize::from(label)] = f32::from_bits(wrong | sign);
-                for other in lists.labels() {
-                    let expected = if other == label { Err(Refusal::Coordinate) } else { point(&lists, other, 1) };
-                    assert_eq!(point(&spoilt, other, 1), expected, "{:08x} at {label}", wrong | sign);
-                }
+        for label in lists.labels() {
+            let entries = |other| if other == label { Err(Refusal::Coordinate) } else { Ok(lists.entries(other)) };
+            for spoilt in spoilt(&lists, label) {
+                lists.labels().for_each(|other| assert_eq!(point(&spoilt, other, 1), entries(other), "{spoilt:?}"));
             }
         }
     }
@@ -132,18 +137,17 @@ fn a_label_of_more_bits_is_refused() {
 
 #[test]
 fn lists_have_an_entry_for_each_label() {
-    for (modulation, edge) in Modulation::ALL.into_iter().flat_map(|modulation| EDGES.map(|edge| (modulation, edge))) {
-        let count = modulation.points();
-        let list = |length: usize| vec![[edge; 2]; length];
+    let mut random = Random::new(139);
+    for modulation in Modulation::ALL {
+        let (right, count) = (Lists::new(&mut random, modulation), modulation.points());
         for length in (0..=2 * count + 1).filter(|&length| length != count) {
-            let short = Lists::of_points(modulation, &list(length));
-            let right = Lists::of_points(modulation, &list(count));
-            let mixed = [
-                Lists { in_phase: short.in_phase.clone(), ..right.clone() },
-                Lists { quadrature: short.quadrature.clone(), ..right.clone() },
-                short,
-            ];
-            assert!(mixed.iter().all(|lists| point(lists, 0, 1) == Err(Refusal::Length)), "{length} entries");
+            let wrong = [(); 2].map(|()| random.floats(length));
+            let [i, q] = [0, 1].map(|which| (wrong[which].clone(), right.coordinates[which].clone()));
+            for coordinates in [[i.0, q.1], [i.1, q.0], wrong] {
+                let lists = Lists { modulation, coordinates };
+                assert_eq!(point(&lists, 0, 1), Err(Refusal::Length), "{length} entries of {modulation}");
+            }
         }
+        assert!(point(&right, 0, 1).is_ok());
     }
 }

@@ -47,7 +47,7 @@ fn points_of_a_coded_slot() {
 fn points_of_labels_from_any_symbol_on() {
     let mut random = Random::new(134);
     let mut kinds = Counts::default();
-    for modulation in (0..trials(200)).flat_map(|_| Modulation::ALL) {
+    for modulation in (0..trials(500)).flat_map(|_| Modulation::ALL) {
         let (lists, count) = (Lists::new(&mut random, modulation), random.below(100));
         let (labels, symbol) = (random.labels(modulation, count), random.symbol(modulation));
         each_is_the_lone_one(&mut random, &lists, symbol, &labels);
@@ -100,14 +100,13 @@ fn every_label_is_tested_for_12_before_any_for_18() {
         let symbol = random.symbol(modulation);
         assert!(points_of(&mut random, &lists, symbol, &labels).is_ok());
 
-        let places = [0, count - 1, count / 2];
         let (with_spoilt, with_wrong) = (random.chance(2), random.chance(2));
         if with_spoilt {
-            labels[random.pick(&places)] = spoilt;
+            labels[random.pick(&[0, count - 1, count / 2])] = spoilt;
         }
         if with_wrong {
             let wrong = spoilt | random.pick(&[modulation.points() as u8, 0x80]);
-            labels.insert(random.pick(&places), wrong);
+            labels.insert(random.pick(&[0, count, count / 2]), wrong);
         }
         let expected = match (with_wrong, with_spoilt) {
             (true, _) => Some(Refusal::Label),
@@ -135,7 +134,7 @@ fn without_labels_no_entry_is_used() {
         let without_symbol = points_of(&mut random, &lists, 0, &[]).map(drop);
         let expected = if modulation == Modulation::Bpsk { Err(Refusal::Length) } else { Ok(()) };
         assert_eq!(without_symbol, expected);
-        lists.quadrature.0.push(0.0);
+        lists.coordinates[1].0.push(0.0);
         assert_eq!(points_of(&mut random, &lists, 1, &[]), Err(Refusal::Length));
     }
 }

@@ -56,7 +56,7 @@ impl Lent {
                 lists.spoil(random, other);
             }
         }
-        let Lists { in_phase: Floats(in_phase), quadrature: Floats(quadrature), .. } = lists;
+        let [Floats(in_phase), Floats(quadrature)] = lists.coordinates;
         let (symbol, ArrangedRegister { mask, register }) = (random.symbol(modulation), random.arranged_register());
         let [point, i_out, q_out] = [2, count, count].map(|count| random.floats(count));
         let (modulation, label) = (modulation.number(), label.into());
