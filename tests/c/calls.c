@@ -605,8 +605,8 @@ static int as_found(const float *area, size_t length)
 #define I_OF(label) (0x3F800000u + (label))
 #define Q_OF(label) (0xBF000000u + (label))
 
-/* Lists and a point, each with room for a float too many. */
-static float in_phase[33], quadrature[33], point[S3_POINT + 1];
+/* Lists, a point, and the points of a slot, each with room for a float too many. */
+static float in_phase[33], quadrature[33], point[S3_POINT + 1], i_out[44881], q_out[44881];
 
 static void put_lists(void)
 {
@@ -626,9 +626,30 @@ static int is_point(uint32_t i, uint32_t q)
 #define ARRANGED(modulation, label, symbol, i_count, q_count, mask, held, length) \
     s3_arranged_point(modulation, label, symbol, in_phase, i_count, quadrature, q_count, mask, held, point, length)
 
-/* What a call gives, or refuses and leaves its area with. */
+/* Whether a call gives this point; whether it answers this refusal and leaves the area. */
 #define GIVES(call, i, q) (put_found(point, COUNT(point)), (call) == S3_ACCEPTED && is_point(i, q))
 #define REFUSED(call, number) (put_found(point, COUNT(point)), (call) == (number) && as_found(point, COUNT(point)))
+
+#define POINTS(modulation, symbol, from, count, i_count, q_count, i_length, q_length) \
+    s3_points(modulation, symbol, from, count, in_phase, i_count, quadrature, q_count, i_out, i_length, q_out, q_length)
+
+static void put_areas(void)
+{
+    put_found(i_out, COUNT(i_out));
+    put_found(q_out, COUNT(q_out));
+}
+
+/* Whether both areas are as found from a place on. */
+static int areas_left(size_t from)
+{
+    return as_found(i_out + from, COUNT(i_out) - from) && as_found(q_out + from, COUNT(q_out) - from);
+}
+
+/* Whether the areas hold this point at a place. */
+static int is_at(size_t place, uint32_t i, uint32_t q)
+{
+    return holds(i_out + place, i) && holds(q_out + place, q);
+}
 
 static void points_of_all_labels(void)
 {
@@ -661,6 +682,7 @@ static const uint32_t not_finite[] = {0x7F800000, 0x7F800001, 0x7FA5A5A5, 0x7FBF
 
 static void edges_of_coordinates(void)
 {
+    static const uint8_t twice[] = {1, 1};
     for (size_t k = 0; k < COUNT(edges) * COUNT(edges) * 4; k++) {
         const uint32_t i = edges[k / 4 % COUNT(edges)] | (k & 1 ? SIGN : 0);
         const uint32_t q = edges[k / 4 / COUNT(edges)] | (k & 2 ? SIGN : 0);
@@ -669,12 +691,14 @@ static void edges_of_coordinates(void)
         EXPECT(GIVES(POINT(1, 1, 1, 2, 2, 2), i, q) && GIVES(POINT(1, 1, 2, 2, 2, 2), q ^ SIGN, i));
         EXPECT(GIVES(ARRANGED(1, 1, 1, 2, 2, block_mask, 1u << 14, 2), i ^ SIGN, q ^ SIGN));
         EXPECT(GIVES(ARRANGED(1, 1, 2, 2, 2, block_mask, 1u << 14, 2), q, i ^ SIGN));
+        EXPECT(POINTS(1, 1, twice, 2, 2, 2, 2, 2) == S3_ACCEPTED && is_at(0, i, q) && is_at(1, q ^ SIGN, i));
     }
 }
 
 /* An entry counts where it is used, and there alone. */
 static void coordinates_not_finite(void)
 {
+    static const uint8_t with[] = {4, 6, 5}, without[] = {4, 6};
     for (size_t k = 0; k < COUNT(not_finite) * 4; k++) {
         put_lists();
         put((k & 2 ? in_phase : quadrature) + 5, not_finite[k / 4] | (k & 1 ? SIGN : 0));
@@ -683,6 +707,10 @@ static void coordinates_not_finite(void)
         EXPECT(GIVES(POINT(3, 4, 1, 8, 8, 2), I_OF(4), Q_OF(4)) && GIVES(POINT(3, 6, 1, 8, 8, 2), I_OF(6), Q_OF(6)));
         EXPECT(GIVES(ARRANGED(3, 4, 1, 8, 8, block_mask, 1, 2), I_OF(4), Q_OF(4)));
         EXPECT(REFUSED(POINT(3, 8 + 5, 1, 8, 8, 2), S3_LABEL) && REFUSED(POINT(3, 5, 1, 8, 7, 2), S3_LENGTH));
+        put_areas();
+        EXPECT(POINTS(3, 1, with, 3, 8, 8, 3, 3) == S3_COORDINATE && areas_left(0));
+        EXPECT(POINTS(3, 1, without, 2, 8, 8, 2, 2) == S3_ACCEPTED);
+        EXPECT(is_at(0, I_OF(4), Q_OF(4)) && is_at(1, I_OF(6), Q_OF(6)));
     }
     put_lists();
     EXPECT(GIVES(POINT(3, 5, 1, 8, 8, 2), I_OF(5), Q_OF(5)));
@@ -744,7 +772,7 @@ static void stepping_the_register(void)
     EXPECT(STEP(block_mask, 1, 0) == S3_LENGTH && STEP(block_mask, 1, 2) == S3_LENGTH && at(next, 7, 8));
 }
 
-/* The signal point arrangement signal of document 002, 2.2.1.11, is all labels in their order, 32 symbols. Under mask 2^14 and
+/* The signal point arrangement signal of document 002, 2.2.1.11: all labels in their order, 32 symbols. Under mask 2^14 and
  * start 1 its register gives a one at symbols 15 and 30, each time comes round to 1, and stands at 4 behind the last. */
 static void arrangement_signal(void)
 {
@@ -765,39 +793,25 @@ static void arrangement_signal(void)
     EXPECT(GIVES(ARRANGED(2, 3, 0, 4, 4, 0x7FFF, 0x3FFF, 2), I_OF(3), Q_OF(3)));
 }
 
-/* Two half turns and four quarter turns, each of the point before, give the lent bits back. */
+/* Lends the point that was given in place of label 0's. */
+static void lend_point(void)
+{
+    memcpy(in_phase, point, sizeof *point);
+    memcpy(quadrature, point + 1, sizeof *point);
+}
+
+/* Four quarter turns give the lent bits back, and two half turns; less do not. */
 static void turns_that_come_round(void)
 {
+    const uint32_t i = I_OF(0), q = Q_OF(0);
     put_lists();
-    for (unsigned turn = 0; turn < 4; turn++) {
-        put_found(point, COUNT(point));
-        EXPECT(POINT(1, 0, 2, 2, 2, 2) == S3_ACCEPTED && (turn == 3) == is_point(I_OF(0), Q_OF(0)));
-        memcpy(in_phase, point, sizeof *point);
-        memcpy(quadrature, point + 1, sizeof *point);
+    put_found(point, COUNT(point));
+    for (unsigned turn = 1; turn <= 4; turn++, lend_point()) {
+        EXPECT(POINT(1, 0, 2, 2, 2, 2) == S3_ACCEPTED && is_point(i, q) == (turn == 4));
     }
-    for (unsigned turn = 0; turn < 2; turn++) {
-        put_found(point, COUNT(point));
-        EXPECT(ARRANGED(5, 0, 0, 32, 32, block_mask, 0x4001, 2) == S3_ACCEPTED && (turn == 1) == is_point(I_OF(0), Q_OF(0)));
-        memcpy(in_phase, point, sizeof *point);
-        memcpy(quadrature, point + 1, sizeof *point);
+    for (unsigned turn = 1; turn <= 2; turn++, lend_point()) {
+        EXPECT(ARRANGED(5, 0, 0, 32, 32, block_mask, 0x4001, 2) == S3_ACCEPTED && is_point(i, q) == (turn == 2));
     }
-}
-
-static float i_out[44881], q_out[44881];
-
-#define POINTS(modulation, symbol, from, count, i_count, q_count, i_length, q_length) \
-    s3_points(modulation, symbol, from, count, in_phase, i_count, quadrature, q_count, i_out, i_length, q_out, q_length)
-
-static void put_areas(void)
-{
-    put_found(i_out, COUNT(i_out));
-    put_found(q_out, COUNT(q_out));
-}
-
-/* Whether both areas are as found from a place on. */
-static int areas_left(size_t from)
-{
-    return as_found(i_out + from, COUNT(i_out) - from) && as_found(q_out + from, COUNT(q_out) - from);
 }
 
 /* As a modulator does: the labels of a slot, and their points from a symbol on, each the lone call's under its number. */
@@ -822,19 +836,18 @@ static void points_of_a_slot(void)
     }
 }
 
-/* Symbol numbers go on past 32 bits, and no label uses no entry. */
+/* Symbol numbers go on past 32 bits; without labels no entry is used. */
 static void points_of_few_labels(void)
 {
     static const uint8_t labels[] = {0, 0, 1, 1};
     put_lists();
     put_areas();
     EXPECT(POINTS(1, UINT32_MAX, labels, 4, 2, 2, 4, 4) == S3_ACCEPTED && areas_left(4));
-    EXPECT(holds(i_out, I_OF(0)) && holds(q_out, Q_OF(0)) && holds(i_out + 1, Q_OF(0) ^ SIGN) && holds(q_out + 1, I_OF(0)));
-    EXPECT(holds(i_out + 2, I_OF(1)) && holds(q_out + 2, Q_OF(1)));
-    EXPECT(holds(i_out + 3, Q_OF(1) ^ SIGN) && holds(q_out + 3, I_OF(1)));
+    EXPECT(is_at(0, I_OF(0), Q_OF(0)) && is_at(1, Q_OF(0) ^ SIGN, I_OF(0)));
+    EXPECT(is_at(2, I_OF(1), Q_OF(1)) && is_at(3, Q_OF(1) ^ SIGN, I_OF(1)));
     put_areas();
-    EXPECT(POINTS(1, UINT32_MAX, labels, 1, 2, 2, 1, 1) == S3_ACCEPTED && areas_left(1));
-    EXPECT(POINTS(1, UINT32_MAX - 1, labels, 1, 2, 2, 1, 1) == S3_ACCEPTED && holds(i_out, Q_OF(0) ^ SIGN));
+    EXPECT(POINTS(1, UINT32_MAX, labels, 1, 2, 2, 1, 1) == S3_ACCEPTED && is_at(0, I_OF(0), Q_OF(0)) && areas_left(1));
+    EXPECT(POINTS(1, UINT32_MAX - 1, labels, 1, 2, 2, 1, 1) == S3_ACCEPTED && is_at(0, Q_OF(0) ^ SIGN, I_OF(0)));
     put_found(in_phase, COUNT(in_phase));
     put_found(quadrature, COUNT(quadrature));
     put_areas();
@@ -870,7 +883,8 @@ static void refusing_points_of_labels(void)
     EXPECT(POINTS(2, 0, used, 4, 4, 4, 4, 4) == S3_COORDINATE && POINTS(2, 0, last, 3, 4, 4, 3, 3) == S3_COORDINATE);
     EXPECT(areas_left(0));
     EXPECT(POINTS(2, 0, right, 4, 4, 4, 4, 4) == S3_ACCEPTED && areas_left(4));
-    EXPECT(holds(i_out, I_OF(0)) && holds(i_out + 1, I_OF(2)) && holds(q_out + 2, Q_OF(3)) && holds(q_out + 3, Q_OF(0)));
+    EXPECT(is_at(0, I_OF(0), Q_OF(0)) && is_at(1, I_OF(2), Q_OF(2)));
+    EXPECT(is_at(2, I_OF(3), Q_OF(3)) && is_at(3, I_OF(0), Q_OF(0)));
 }
 
 static void packing(void)
