@@ -789,8 +789,11 @@ static void arrangement_signal(void)
         }
         EXPECT(held[0] == 4);
     }
+    /* The top bit turns, whatever the others are, and not what mask and register share. */
     EXPECT(GIVES(ARRANGED(2, 3, 0, 4, 4, 0x7FFF, 0x7FFF, 2), I_OF(3) ^ SIGN, Q_OF(3) ^ SIGN));
+    EXPECT(GIVES(ARRANGED(2, 3, 0, 4, 4, 0x7FFF, 0x4001, 2), I_OF(3) ^ SIGN, Q_OF(3) ^ SIGN));
     EXPECT(GIVES(ARRANGED(2, 3, 0, 4, 4, 0x7FFF, 0x3FFF, 2), I_OF(3), Q_OF(3)));
+    EXPECT(GIVES(ARRANGED(2, 3, 0, 4, 4, 0x7FFF, 0x0001, 2), I_OF(3), Q_OF(3)));
 }
 
 /* Lends the point that was given in place of label 0's. */
