@@ -1,5 +1,5 @@
-/* ISDB-S3 slot framer and its reader: slots, whole frames, TMCC blocks, symbols as labels, TS packets, TLV packets, and
- * settings on a card.
+/* ISDB-S3 slot framer and its reader: slots, whole frames, TMCC blocks, symbols as labels and as signal points, TS packets,
+ * TLV packets, and settings on a card.
  *
  * Every call but those under "What to lend" answers a number: 0 where it is accepted, else the refusal of the first test that
  * failed; s3_word gives its word. A call tests in the order in which its numbers are listed. Unless a call says otherwise, a
@@ -18,7 +18,7 @@ extern "C" {
 #endif
 
 /* The version of the library: 10,000 times the major number, 100 times the minor one, and the patch number. */
-#define S3_VERSION 600
+#define S3_VERSION 700
 
 /* A result that nobody looks at is a mistake, of which the compiler warns. */
 #if defined(__cplusplus) && __cplusplus >= 201703L
@@ -33,28 +33,29 @@ extern "C" {
 
 /* The numbers. */
 #define S3_ACCEPTED 0u
-#define S3_PLAN 1u      /* not 1 to 8 groups, or slot 0; in a call without a plan, an unknown modulation or rate */
-#define S3_DUMMY 2u     /* a dummy where data was asked for, or a data slot at a pass */
-#define S3_FULL 3u      /* slot 120 is past */
-#define S3_LENGTH 4u    /* an area isn't exactly its length; in a TLV call also a number outside its bounds */
-#define S3_TABLE 5u     /* a parity table breaks its form */
-#define S3_REGISTER 6u  /* start or register is 0 or too wide; mask is too wide or lacks the top bit */
-#define S3_SYNC 7u      /* a TS packet doesn't begin 0x47 */
-#define S3_PARITY 8u    /* a received LDPC parity bit is wrong */
-#define S3_BCH 9u       /* the received BCH bits are wrong */
-#define S3_TAIL 11u     /* one of the last two TMCC bits is 1 */
-#define S3_LABEL 12u    /* a label is 2^modulation or more */
-#define S3_VALUE 13u    /* a group's modulation or rate is unknown, or its slots are 0 or no multiple of 5 */
-#define S3_ORDER 14u    /* the groups do not fall */
-#define S3_TOTAL 15u    /* the slots of all groups do not add to 120 */
-#define S3_PACKET 16u   /* a TLV head is wrong or a null's body is not all 0xFF, or a head or length runs past the packets */
-#define S3_BLOCK 17u    /* a card has no block of this number, or its mark, edition or sum is wrong, or a filler isn't 0 */
+#define S3_PLAN 1u        /* not 1 to 8 groups, or slot 0; in a call without a plan, an unknown modulation or rate */
+#define S3_DUMMY 2u       /* a dummy where data was asked for, or a data slot at a pass */
+#define S3_FULL 3u        /* slot 120 is past */
+#define S3_LENGTH 4u      /* an area isn't exactly its length; a number of a TLV call outside its bounds; symbol 0 of BPSK */
+#define S3_TABLE 5u       /* a parity table breaks its form */
+#define S3_REGISTER 6u    /* start or register is 0 or too wide; mask is too wide or lacks the top bit */
+#define S3_SYNC 7u        /* a TS packet doesn't begin 0x47 */
+#define S3_PARITY 8u      /* a received LDPC parity bit is wrong */
+#define S3_BCH 9u         /* the received BCH bits are wrong */
+#define S3_TAIL 11u       /* one of the last two TMCC bits is 1 */
+#define S3_LABEL 12u      /* a label is 2^modulation or more */
+#define S3_VALUE 13u      /* a group's modulation or rate is unknown, or its slots are 0 or no multiple of 5 */
+#define S3_ORDER 14u      /* the groups do not fall */
+#define S3_TOTAL 15u      /* the slots of all groups do not add to 120 */
+#define S3_PACKET 16u     /* a TLV head is wrong, a null's body isn't all 0xFF, or a head or length runs past the packets */
+#define S3_BLOCK 17u      /* a card has no block of this number, or its mark, edition or sum is wrong, or a filler isn't 0 */
+#define S3_COORDINATE 18u /* a coordinate that is used is infinite or not a number */
 
 /* The word of a number; that of 0 is "accepted", and a number that no call answers has none, "unknown". */
 S3_RESULT static inline const char *s3_word(uint32_t number) {
     static const char *const words[] = {"accepted", "plan", "dummy", "full", "length", "table", "register", "sync",
                                         "parity", "BCH", "unknown", "tail", "label", "value", "order", "total",
-                                        "packet", "block"};
+                                        "packet", "block", "coordinate"};
     return number < sizeof words / sizeof *words ? words[number] : "unknown";
 }
 
@@ -72,6 +73,8 @@ S3_RESULT static inline const char *s3_word(uint32_t number) {
 #define S3_TMCC_OCTETS 1178u      /* octets of a frame's 9,422 TMCC bits and two zeros */
 #define S3_BLOCK_OCTETS 3960u     /* octets of a coded TMCC block */
 #define S3_BLOCK_LABELS 31680u    /* labels of a TMCC block */
+#define S3_POINT 2u               /* floats of `point`: I, Q */
+#define S3_ARRANGED_NEXT 1u       /* numbers of `next` of s3_arranged_step: the register */
 #define S3_TLV_NEXT 2u            /* numbers of `next` of s3_tlv_fill and s3_tlv_read */
 #define S3_SETTING_OCTETS 512u    /* octets of a setting's block on a card */
 #define S3_MOST_SETTINGS 64u      /* the most blocks of a card */
@@ -251,6 +254,52 @@ S3_RESULT uint32_t s3_tmcc_labels(const uint8_t *block, size_t block_length, uin
  *   block   3,960 octets
  * Numbers: 4, 12. */
 S3_RESULT uint32_t s3_tmcc_of_labels(const uint8_t *labels, size_t labels_length, uint8_t *block, size_t block_length);
+
+/* A signal point has an in-phase coordinate I and a quadrature coordinate Q. The caller knows them: in_phase and quadrature
+ * lend I and Q of each label of a modulation, label 0 first, as 2^modulation floats each. A float is one of IEEE 754, of 32
+ * bits. Those of the labels asked for must be finite; a point is made of them by copying and negation, right to the last bit.
+ *
+ * symbol: with BPSK the number of the symbol in the frame, from 1 on. Points of even symbols are turned by 90 degrees
+ * anticlockwise, which makes (I, Q) into (-Q, I). With other modulations it does not count.
+ *
+ * A modulator calls s3_labels, then s3_points. For the symbols of the signal point arrangement signal it calls
+ * s3_arranged_point, and s3_arranged_step from each to the next: these take the mask of a 15-bit register, which has the top
+ * bit, and the register as it stands. */
+
+/* The point of a label.
+ *   in_phase    2^modulation floats
+ *   quadrature  2^modulation floats
+ *   point       2 floats: I and Q
+ * Numbers: 1, 4 (with BPSK also symbol 0), 12, 18. */
+S3_RESULT uint32_t s3_point(uint32_t modulation, uint32_t label, uint32_t symbol, const float *in_phase,
+                            size_t in_phase_length, const float *quadrature, size_t quadrature_length, float *point,
+                            size_t point_length);
+
+/* The point of a label in the signal point arrangement signal: that of s3_point, turned by 180 degrees, which makes (I, Q)
+ * into (-I, -Q), where the register's bit of weight 2^14 is 1.
+ *   in_phase    2^modulation floats
+ *   quadrature  2^modulation floats
+ *   point       2 floats: I and Q
+ * Numbers: 1, 6, 4 (with BPSK also symbol 0), 12, 18. */
+S3_RESULT uint32_t s3_arranged_point(uint32_t modulation, uint32_t label, uint32_t symbol, const float *in_phase,
+                                     size_t in_phase_length, const float *quadrature, size_t quadrature_length,
+                                     uint32_t mask, uint32_t register_, float *point, size_t point_length);
+
+/* Steps the register of the signal point arrangement signal.
+ *   next  1 number: the register one step on; 0 with a refusal
+ * Numbers: 6, 4. Where next has another length it is left as found. */
+S3_RESULT uint32_t s3_arranged_step(uint32_t mask, uint32_t register_, uint32_t *next, size_t next_length);
+
+/* The points of labels, each that of s3_point. symbol is that of the first label; the others count on from it, past 2^32 too.
+ *   labels      any number of octets, each below 2^modulation
+ *   in_phase    2^modulation floats
+ *   quadrature  2^modulation floats
+ *   i_out       as many floats as labels: I of each
+ *   q_out       as many floats as labels: Q of each
+ * Numbers: 1, 4 (with BPSK also symbol 0), 12, 18, each tested of all labels before the next. */
+S3_RESULT uint32_t s3_points(uint32_t modulation, uint32_t symbol, const uint8_t *labels, size_t labels_length,
+                             const float *in_phase, size_t in_phase_length, const float *quadrature,
+                             size_t quadrature_length, float *i_out, size_t i_length, float *q_out, size_t q_length);
 
 /* Packs the TS packets of one slot.
  *   packets  188 * P octets, each packet beginning 0x47

@@ -93,9 +93,9 @@ static void words(void)
     EXPECT(strcmp(s3_word(S3_BCH), "BCH") == 0 && strcmp(s3_word(S3_LABEL), "label") == 0);
     EXPECT(strcmp(s3_word(S3_VALUE), "value") == 0 && strcmp(s3_word(S3_ORDER), "order") == 0);
     EXPECT(strcmp(s3_word(S3_TOTAL), "total") == 0 && strcmp(s3_word(S3_PACKET), "packet") == 0);
-    EXPECT(strcmp(s3_word(S3_BLOCK), "block") == 0);
+    EXPECT(strcmp(s3_word(S3_BLOCK), "block") == 0 && strcmp(s3_word(S3_COORDINATE), "coordinate") == 0);
     EXPECT(strcmp(s3_word(10), "unknown") == 0 && strcmp(s3_word(S3_TAIL), "tail") == 0);
-    EXPECT(strcmp(s3_word(18), "unknown") == 0 && strcmp(s3_word(UINT32_MAX), "unknown") == 0);
+    EXPECT(strcmp(s3_word(19), "unknown") == 0 && strcmp(s3_word(UINT32_MAX), "unknown") == 0);
 }
 
 /* What a caller asks before it lends. */
@@ -574,6 +574,322 @@ static void block_symbols(void)
     EXPECT(memcmp(back, block, sizeof back) == 0);
 }
 
+/* Floats are put and compared by their bits alone, so that the signs of zeros count, and what NaNs hold. */
+#define SIGN 0x80000000u
+#define FOUND_NAN 0xFFA5A5A5u /* what areas for points hold before a call: a NaN that signals */
+
+static void put(float *at, uint32_t bits)
+{
+    memcpy(at, &bits, sizeof bits);
+}
+
+static int holds(const float *at, uint32_t bits)
+{
+    return memcmp(at, &bits, sizeof bits) == 0;
+}
+
+static void put_found(float *area, size_t length)
+{
+    for (size_t i = 0; i < length; i++) put(area + i, FOUND_NAN);
+}
+
+static int as_found(const float *area, size_t length)
+{
+    for (size_t i = 0; i < length; i++) {
+        if (!holds(area + i, FOUND_NAN)) return 0;
+    }
+    return 1;
+}
+
+/* What the lists hold for a label: each coordinate is another one, those of Q are negative. */
+#define I_OF(label) (0x3F800000u + (label))
+#define Q_OF(label) (0xBF000000u + (label))
+
+/* Lists, a point, and the points of a slot, each with room for a float too many. */
+static float in_phase[33], quadrature[33], point[S3_POINT + 1], i_out[44881], q_out[44881];
+
+static void put_lists(void)
+{
+    for (uint32_t label = 0; label < COUNT(in_phase); label++) {
+        put(in_phase + label, I_OF(label));
+        put(quadrature + label, Q_OF(label));
+    }
+}
+
+static int is_point(uint32_t i, uint32_t q)
+{
+    return holds(point, i) && holds(point + 1, q) && holds(point + 2, FOUND_NAN);
+}
+
+#define POINT(modulation, label, symbol, i_count, q_count, length) \
+    s3_point(modulation, label, symbol, in_phase, i_count, quadrature, q_count, point, length)
+#define ARRANGED(modulation, label, symbol, i_count, q_count, mask, held, length) \
+    s3_arranged_point(modulation, label, symbol, in_phase, i_count, quadrature, q_count, mask, held, point, length)
+
+/* Whether a call gives this point; whether it answers this refusal and leaves the area. */
+#define GIVES(call, i, q) (put_found(point, COUNT(point)), (call) == S3_ACCEPTED && is_point(i, q))
+#define REFUSED(call, number) (put_found(point, COUNT(point)), (call) == (number) && as_found(point, COUNT(point)))
+
+#define POINTS(modulation, symbol, from, count, i_count, q_count, i_length, q_length) \
+    s3_points(modulation, symbol, from, count, in_phase, i_count, quadrature, q_count, i_out, i_length, q_out, q_length)
+
+static void put_areas(void)
+{
+    put_found(i_out, COUNT(i_out));
+    put_found(q_out, COUNT(q_out));
+}
+
+/* Whether both areas are as found from a place on. */
+static int areas_left(size_t from)
+{
+    return as_found(i_out + from, COUNT(i_out) - from) && as_found(q_out + from, COUNT(q_out) - from);
+}
+
+/* Whether the areas hold this point at a place. */
+static int is_at(size_t place, uint32_t i, uint32_t q)
+{
+    return holds(i_out + place, i) && holds(q_out + place, q);
+}
+
+static void points_of_all_labels(void)
+{
+    put_lists();
+    for (uint32_t modulation = 1; modulation <= 5; modulation++) {
+        const uint32_t n = 1u << modulation;
+        for (uint32_t label = 0; label < n; label++) {
+            EXPECT(GIVES(POINT(modulation, label, 1, n, n, 2), I_OF(label), Q_OF(label)));
+            EXPECT(GIVES(POINT(modulation, label, UINT32_MAX, n, n, 2), I_OF(label), Q_OF(label)));
+        }
+        for (uint32_t label = 0; label < n && modulation > 1; label++) {
+            EXPECT(GIVES(POINT(modulation, label, 0, n, n, 2), I_OF(label), Q_OF(label)));
+            EXPECT(GIVES(POINT(modulation, label, 2, n, n, 2), I_OF(label), Q_OF(label)));
+        }
+        EXPECT(REFUSED(POINT(modulation, n, 1, n, n, 2), S3_LABEL));
+        EXPECT(REFUSED(POINT(modulation, 256, 1, n, n, 2), S3_LABEL)); /* not the label of its low octet */
+        EXPECT(REFUSED(POINT(modulation, 1u << 31, 1, n, n, 2), S3_LABEL));
+    }
+    for (uint32_t label = 0; label < 2; label++) {
+        EXPECT(GIVES(POINT(1, label, 2, 2, 2, 2), Q_OF(label) ^ SIGN, I_OF(label)));
+        EXPECT(GIVES(POINT(1, label, 1u << 31, 2, 2, 2), Q_OF(label) ^ SIGN, I_OF(label)));
+        EXPECT(GIVES(POINT(1, label, UINT32_MAX - 1, 2, 2, 2), Q_OF(label) ^ SIGN, I_OF(label)));
+    }
+}
+
+/* What is finite at its edges: zero, the least and the largest denormal number, the least normal one, the largest one; and
+ * what is not: infinity, NaNs that signal, and quiet ones. */
+static const uint32_t edges[] = {0, 1, 0x007FFFFF, 0x00800000, 0x7F7FFFFF};
+static const uint32_t not_finite[] = {0x7F800000, 0x7F800001, 0x7FA5A5A5, 0x7FBFFFFF, 0x7FC00000, 0x7FD12345, 0x7FFFFFFF};
+
+static void edges_of_coordinates(void)
+{
+    static const uint8_t twice[] = {1, 1};
+    for (size_t k = 0; k < COUNT(edges) * COUNT(edges) * 4; k++) {
+        const uint32_t i = edges[k / 4 % COUNT(edges)] | (k & 1 ? SIGN : 0);
+        const uint32_t q = edges[k / 4 / COUNT(edges)] | (k & 2 ? SIGN : 0);
+        put(in_phase + 1, i);
+        put(quadrature + 1, q);
+        EXPECT(GIVES(POINT(1, 1, 1, 2, 2, 2), i, q) && GIVES(POINT(1, 1, 2, 2, 2, 2), q ^ SIGN, i));
+        EXPECT(GIVES(ARRANGED(1, 1, 1, 2, 2, block_mask, 1u << 14, 2), i ^ SIGN, q ^ SIGN));
+        EXPECT(GIVES(ARRANGED(1, 1, 2, 2, 2, block_mask, 1u << 14, 2), q, i ^ SIGN));
+        EXPECT(POINTS(1, 1, twice, 2, 2, 2, 2, 2) == S3_ACCEPTED && is_at(0, i, q) && is_at(1, q ^ SIGN, i));
+    }
+}
+
+/* An entry counts where it is used, and there alone. */
+static void coordinates_not_finite(void)
+{
+    static const uint8_t with[] = {4, 6, 5}, without[] = {4, 6};
+    for (size_t k = 0; k < COUNT(not_finite) * 4; k++) {
+        put_lists();
+        put((k & 2 ? in_phase : quadrature) + 5, not_finite[k / 4] | (k & 1 ? SIGN : 0));
+        EXPECT(REFUSED(POINT(3, 5, 1, 8, 8, 2), S3_COORDINATE));
+        EXPECT(REFUSED(ARRANGED(3, 5, 1, 8, 8, block_mask, 1u << 14, 2), S3_COORDINATE));
+        EXPECT(GIVES(POINT(3, 4, 1, 8, 8, 2), I_OF(4), Q_OF(4)) && GIVES(POINT(3, 6, 1, 8, 8, 2), I_OF(6), Q_OF(6)));
+        EXPECT(GIVES(ARRANGED(3, 4, 1, 8, 8, block_mask, 1, 2), I_OF(4), Q_OF(4)));
+        EXPECT(REFUSED(POINT(3, 8 + 5, 1, 8, 8, 2), S3_LABEL) && REFUSED(POINT(3, 5, 1, 8, 7, 2), S3_LENGTH));
+        put_areas();
+        EXPECT(POINTS(3, 1, with, 3, 8, 8, 3, 3) == S3_COORDINATE && areas_left(0));
+        EXPECT(POINTS(3, 1, without, 2, 8, 8, 2, 2) == S3_ACCEPTED);
+        EXPECT(is_at(0, I_OF(4), Q_OF(4)) && is_at(1, I_OF(6), Q_OF(6)));
+    }
+    put_lists();
+    EXPECT(GIVES(POINT(3, 5, 1, 8, 8, 2), I_OF(5), Q_OF(5)));
+}
+
+static void refusing_points(void)
+{
+    static const uint32_t unknown[] = {0, 6, 256 + 1, 65536 + 1, (1u << 31) + 1, UINT32_MAX};
+    static const size_t wrong[] = {0, 1, 3, 4};
+    put_lists();
+    put(in_phase + 1, not_finite[0]);
+    for (size_t k = 0; k < COUNT(unknown); k++) {
+        EXPECT(REFUSED(POINT(unknown[k], 2, 0, 3, 3, 3), S3_PLAN) && REFUSED(POINT(unknown[k], 0, 1, 2, 2, 2), S3_PLAN));
+        EXPECT(REFUSED(ARRANGED(unknown[k], 2, 0, 3, 3, 0, 0, 3), S3_PLAN));
+    }
+    for (size_t k = 0; k < COUNT(wrong); k++) {
+        EXPECT(REFUSED(POINT(1, 2, 1, wrong[k], 2, 2), S3_LENGTH) && REFUSED(POINT(1, 0, 1, wrong[k], 2, 2), S3_LENGTH));
+        EXPECT(REFUSED(POINT(1, 2, 1, 2, wrong[k], 2), S3_LENGTH) && REFUSED(POINT(1, 0, 1, 2, wrong[k], 2), S3_LENGTH));
+        EXPECT(REFUSED(ARRANGED(1, 2, 1, wrong[k], 2, block_mask, 1, 2), S3_LENGTH));
+        EXPECT(REFUSED(ARRANGED(1, 0, 1, 2, wrong[k], block_mask, 1, 2), S3_LENGTH));
+    }
+    for (size_t length = 0; length <= 3; length++) {
+        if (length == S3_POINT) continue;
+        EXPECT(REFUSED(POINT(1, 2, 1, 2, 2, length), S3_LENGTH) && REFUSED(POINT(1, 0, 1, 2, 2, length), S3_LENGTH));
+        EXPECT(REFUSED(ARRANGED(1, 0, 1, 2, 2, block_mask, 1, length), S3_LENGTH));
+    }
+    EXPECT(REFUSED(POINT(1, 2, 0, 2, 2, 2), S3_LENGTH) && REFUSED(POINT(1, 0, 0, 2, 2, 2), S3_LENGTH));
+    EXPECT(REFUSED(ARRANGED(1, 2, 0, 2, 2, block_mask, 1, 2), S3_LENGTH));
+    EXPECT(REFUSED(POINT(1, 3, 1, 2, 2, 2), S3_LABEL) && REFUSED(POINT(1, UINT32_MAX, 1, 2, 2, 2), S3_LABEL));
+    EXPECT(REFUSED(ARRANGED(1, 3, 1, 2, 2, block_mask, 1, 2), S3_LABEL));
+    EXPECT(REFUSED(POINT(1, 1, 1, 2, 2, 2), S3_COORDINATE));
+    EXPECT(REFUSED(ARRANGED(1, 1, 1, 2, 2, block_mask, 1, 2), S3_COORDINATE));
+}
+
+/* Masks and registers of 15 bits, one of which is wrong. They are tested behind the modulation, before all else. */
+static const struct { uint32_t taps, held; } wrong_registers[] = {
+    {0, 1}, {1u << 13, 1}, {1u << 15, 1}, {3u << 14, 1}, {1u << 24, 1}, {UINT32_MAX, 1},
+    {1u << 14, 0}, {1u << 14, 1u << 15}, {1u << 14, (1u << 31) + 1}, {0x7FFF, UINT32_MAX},
+};
+
+static void stepping_the_register(void)
+{
+    uint32_t next[2] = {7, 8};
+#define STEP(mask, held, length) s3_arranged_step(mask, held, next, length)
+    EXPECT(STEP(block_mask, 1, S3_ARRANGED_NEXT) == S3_ACCEPTED && at(next, 2, 8));
+    EXPECT(STEP(block_mask, 1u << 14, 1) == S3_ACCEPTED && at(next, 1, 8));
+    EXPECT(STEP(0x4001, 3, 1) == S3_ACCEPTED && at(next, 7, 8));
+    EXPECT(STEP(0x7FFF, 0x7FFF, 1) == S3_ACCEPTED && at(next, 0x7FFF, 8));
+    EXPECT(STEP(0x7FFF, 0x7FFE, 1) == S3_ACCEPTED && at(next, 0x7FFC, 8));
+    for (size_t k = 0; k < COUNT(wrong_registers); k++) {
+        const uint32_t taps = wrong_registers[k].taps, held = wrong_registers[k].held;
+        next[0] = 7;
+        EXPECT(STEP(taps, held, 0) == S3_REGISTER && STEP(taps, held, 2) == S3_REGISTER && at(next, 7, 8));
+        EXPECT(STEP(taps, held, 1) == S3_REGISTER && at(next, 0, 8));
+        EXPECT(REFUSED(ARRANGED(1, 2, 0, 3, 3, taps, held, 3), S3_REGISTER));
+        EXPECT(REFUSED(ARRANGED(1, 0, 1, 2, 2, taps, held, 2), S3_REGISTER));
+    }
+    next[0] = 7;
+    EXPECT(STEP(block_mask, 1, 0) == S3_LENGTH && STEP(block_mask, 1, 2) == S3_LENGTH && at(next, 7, 8));
+}
+
+/* The signal point arrangement signal of document 002, 2.2.1.11: all labels in their order, 32 symbols. Under mask 2^14 and
+ * start 1 its register gives a one at symbols 15 and 30, each time comes round to 1, and stands at 4 behind the last. */
+static void arrangement_signal(void)
+{
+    put_lists();
+    for (uint32_t modulation = 1; modulation <= 5; modulation++) {
+        const uint32_t n = 1u << modulation;
+        uint32_t held[1] = {start};
+        for (uint32_t symbol = 1; symbol <= 32; symbol++) {
+            const uint32_t label = (symbol - 1) % n, turn = symbol % 15 == 0 ? SIGN : 0;
+            const int quarter = modulation == 1 && symbol % 2 == 0;
+            const uint32_t i = quarter ? Q_OF(label) ^ SIGN : I_OF(label), q = quarter ? I_OF(label) : Q_OF(label);
+            EXPECT(GIVES(ARRANGED(modulation, label, symbol, n, n, block_mask, held[0], 2), i ^ turn, q ^ turn));
+            EXPECT(s3_arranged_step(block_mask, held[0], held, 1) == S3_ACCEPTED);
+        }
+        EXPECT(held[0] == 4);
+    }
+    /* The top bit turns, whatever the others are, and not what mask and register share. */
+    EXPECT(GIVES(ARRANGED(2, 3, 0, 4, 4, 0x7FFF, 0x7FFF, 2), I_OF(3) ^ SIGN, Q_OF(3) ^ SIGN));
+    EXPECT(GIVES(ARRANGED(2, 3, 0, 4, 4, 0x7FFF, 0x4001, 2), I_OF(3) ^ SIGN, Q_OF(3) ^ SIGN));
+    EXPECT(GIVES(ARRANGED(2, 3, 0, 4, 4, 0x7FFF, 0x3FFF, 2), I_OF(3), Q_OF(3)));
+    EXPECT(GIVES(ARRANGED(2, 3, 0, 4, 4, 0x7FFF, 0x0001, 2), I_OF(3), Q_OF(3)));
+}
+
+/* Lends the point that was given in place of label 0's. */
+static void lend_point(void)
+{
+    memcpy(in_phase, point, sizeof *point);
+    memcpy(quadrature, point + 1, sizeof *point);
+}
+
+/* Four quarter turns give the lent bits back, and two half turns; less do not. */
+static void turns_that_come_round(void)
+{
+    const uint32_t i = I_OF(0), q = Q_OF(0);
+    put_lists();
+    put_found(point, COUNT(point));
+    for (unsigned turn = 1; turn <= 4; turn++, lend_point()) {
+        EXPECT(POINT(1, 0, 2, 2, 2, 2) == S3_ACCEPTED && is_point(i, q) == (turn == 4));
+    }
+    for (unsigned turn = 1; turn <= 2; turn++, lend_point()) {
+        EXPECT(ARRANGED(5, 0, 0, 32, 32, block_mask, 0x4001, 2) == S3_ACCEPTED && is_point(i, q) == (turn == 2));
+    }
+}
+
+/* As a modulator does: the labels of a slot, and their points from a symbol on, each the lone call's under its number. */
+static void points_of_a_slot(void)
+{
+    static uint8_t labels[44880];
+    put_lists();
+    for (uint32_t modulation = 1; modulation <= 5; modulation++) {
+        const uint32_t n = 1u << modulation;
+        const size_t count = sizeof labels / modulation;
+        EXPECT(s3_labels(modulation, 7, slot1, sizeof slot1, labels, count) == S3_ACCEPTED);
+        for (uint32_t first = 31681; first <= 31682; first++) {
+            size_t same = 0;
+            put_areas();
+            EXPECT(POINTS(modulation, first, labels, count, n, n, count, count) == S3_ACCEPTED && areas_left(count));
+            for (size_t k = 0; k < count; k++) {
+                same += POINT(modulation, labels[k], first + (uint32_t)k, n, n, 2) == S3_ACCEPTED
+                    && memcmp(i_out + k, point, sizeof *point) == 0 && memcmp(q_out + k, point + 1, sizeof *point) == 0;
+            }
+            EXPECT(same == count);
+        }
+    }
+}
+
+/* Symbol numbers go on past 32 bits; without labels no entry is used. */
+static void points_of_few_labels(void)
+{
+    static const uint8_t labels[] = {0, 0, 1, 1};
+    put_lists();
+    put_areas();
+    EXPECT(POINTS(1, UINT32_MAX, labels, 4, 2, 2, 4, 4) == S3_ACCEPTED && areas_left(4));
+    EXPECT(is_at(0, I_OF(0), Q_OF(0)) && is_at(1, Q_OF(0) ^ SIGN, I_OF(0)));
+    EXPECT(is_at(2, I_OF(1), Q_OF(1)) && is_at(3, Q_OF(1) ^ SIGN, I_OF(1)));
+    put_areas();
+    EXPECT(POINTS(1, UINT32_MAX, labels, 1, 2, 2, 1, 1) == S3_ACCEPTED && is_at(0, I_OF(0), Q_OF(0)) && areas_left(1));
+    EXPECT(POINTS(1, UINT32_MAX - 1, labels, 1, 2, 2, 1, 1) == S3_ACCEPTED && is_at(0, Q_OF(0) ^ SIGN, I_OF(0)));
+    put_found(in_phase, COUNT(in_phase));
+    put_found(quadrature, COUNT(quadrature));
+    put_areas();
+    for (uint32_t modulation = 1; modulation <= 5; modulation++) {
+        const uint32_t n = 1u << modulation;
+        EXPECT(POINTS(modulation, 1, labels, 0, n, n, 0, 0) == S3_ACCEPTED);
+        EXPECT(POINTS(modulation, 0, labels, 0, n, n, 0, 0) == (modulation == 1 ? S3_LENGTH : S3_ACCEPTED));
+        EXPECT(POINTS(modulation, 1, labels, 0, n - 1, n, 0, 0) == S3_LENGTH);
+        EXPECT(POINTS(modulation, 1, labels, 0, n, n, 1, 0) == S3_LENGTH);
+        EXPECT(POINTS(modulation, 1, labels, 1, n, n, 1, 1) == S3_COORDINATE);
+    }
+    EXPECT(POINTS(0, 0, labels, 0, 0, 0, 0, 0) == S3_PLAN && areas_left(0));
+}
+
+/* Each test is made of all labels before the next one. */
+static void refusing_points_of_labels(void)
+{
+    static const uint8_t right[] = {0, 2, 3, 0}, last[] = {1, 2, 3, 4}, first[] = {255, 2, 3, 1}, used[] = {0, 2, 3, 1};
+    static const size_t wrong[] = {0, 3, 5, 8};
+    put_lists();
+    put(quadrature + 1, not_finite[1]);
+    put_areas();
+    EXPECT(POINTS(6, 0, last, 4, 5, 5, 5, 5) == S3_PLAN && POINTS(0, 0, last, 4, 1, 1, 4, 4) == S3_PLAN);
+    EXPECT(POINTS(256 + 2, 1, right, 4, 4, 4, 4, 4) == S3_PLAN && POINTS(65536 + 2, 1, right, 4, 4, 4, 4, 4) == S3_PLAN);
+    for (size_t k = 0; k < COUNT(wrong); k++) {
+        const size_t other = wrong[k];
+        EXPECT(POINTS(2, 1, last, 4, other, 4, 4, 4) == S3_LENGTH && POINTS(2, 1, used, 4, 4, other, 4, 4) == S3_LENGTH);
+        EXPECT(POINTS(2, 1, last, 4, 4, 4, other, 4) == S3_LENGTH && POINTS(2, 1, used, 4, 4, 4, 4, other) == S3_LENGTH);
+        EXPECT(POINTS(2, 1, right, 4, 4, 4, other, other) == S3_LENGTH);
+    }
+    EXPECT(POINTS(1, 0, last, 4, 2, 2, 4, 4) == S3_LENGTH);
+    EXPECT(POINTS(2, 0, last, 4, 4, 4, 4, 4) == S3_LABEL && POINTS(2, 0, first, 4, 4, 4, 4, 4) == S3_LABEL);
+    EXPECT(POINTS(2, 0, used, 4, 4, 4, 4, 4) == S3_COORDINATE && POINTS(2, 0, last, 3, 4, 4, 3, 3) == S3_COORDINATE);
+    EXPECT(areas_left(0));
+    EXPECT(POINTS(2, 0, right, 4, 4, 4, 4, 4) == S3_ACCEPTED && areas_left(4));
+    EXPECT(is_at(0, I_OF(0), Q_OF(0)) && is_at(1, I_OF(2), Q_OF(2)));
+    EXPECT(is_at(2, I_OF(3), Q_OF(3)) && is_at(3, I_OF(0), Q_OF(0)));
+}
+
 static void packing(void)
 {
     static uint8_t stream[188 * 27], octets[187 * 27], back[188 * 27];
@@ -1012,6 +1328,16 @@ int main(void)
     tmcc();
     symbols();
     block_symbols();
+    points_of_all_labels();
+    edges_of_coordinates();
+    coordinates_not_finite();
+    refusing_points();
+    stepping_the_register();
+    arrangement_signal();
+    turns_that_come_round();
+    points_of_a_slot();
+    points_of_few_labels();
+    refusing_points_of_labels();
     packing();
     refusing_to_fill();
     filling_with_tlv();

@@ -1,9 +1,10 @@
 //! Times filling slots with TLV packets and reading them back, the proved calls beside the second implementation.
 //!
 //! `make bench` prints the figures. `cargo test` runs each case once, to see that both do the same.
+mod common;
+use common::time;
 use reference::tlv;
 use s3frame::{fill_tlv, read_tlv, Rate, TlvFilled};
-use std::time::Instant;
 
 const RATE: Rate = Rate::R7_9;
 const SLOTS: usize = 120;
@@ -59,18 +60,7 @@ fn plain_read(areas: &mut Areas) {
     assert_eq!(number, 0, "slots and reports");
 }
 
-/// Nanoseconds for an octet of the slots, the least of some runs.
-fn time(runs: usize, mut work: impl FnMut()) -> f64 {
-    let once = |_| {
-        let begun = Instant::now();
-        work();
-        begun.elapsed().as_secs_f64()
-    };
-    1e9 * (0..runs).map(once).fold(f64::INFINITY, f64::min) / (SLOTS * RATE.data_octets()) as f64
-}
-
 fn main() {
-    let runs = if std::env::args().any(|word| word == "--bench") { 100 } else { 1 };
     let octets = SLOTS * RATE.data_octets();
     let cases = [
         Case { name: "bodies of 1,400 octets", octets, kind: 0x03, body: 1400 },
@@ -84,10 +74,10 @@ fn main() {
     for case in cases {
         let packets = packets(&case);
         let [mut ours, mut theirs] = [Areas::new(), Areas::new()];
-        let filling = time(runs, || fill(&packets, &mut ours));
-        let plain_filling = time(runs, || plain_fill(&packets, &mut theirs));
-        let reading = time(runs, || read(&mut ours));
-        let plain_reading = time(runs, || plain_read(&mut theirs));
+        let filling = time(octets, || fill(&packets, &mut ours));
+        let plain_filling = time(octets, || plain_fill(&packets, &mut theirs));
+        let reading = time(octets, || read(&mut ours));
+        let plain_reading = time(octets, || plain_read(&mut theirs));
         assert!(ours == theirs, "{}: the implementations differ", case.name);
         println!("{:26}{filling:9.2}{plain_filling:9.2}{reading:9.2}{plain_reading:9.2}", case.name);
     }

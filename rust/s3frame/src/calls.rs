@@ -215,6 +215,45 @@ extern "C" {
         registers: *const u32,
         registers_length: usize,
     ) -> u32;
+    fn s3_point(
+        modulation: u32,
+        label: u32,
+        symbol: u32,
+        in_phase: *const f32,
+        in_phase_length: usize,
+        quadrature: *const f32,
+        quadrature_length: usize,
+        point: *mut f32,
+        point_length: usize,
+    ) -> u32;
+    fn s3_arranged_point(
+        modulation: u32,
+        label: u32,
+        symbol: u32,
+        in_phase: *const f32,
+        in_phase_length: usize,
+        quadrature: *const f32,
+        quadrature_length: usize,
+        mask: u32,
+        register: u32,
+        point: *mut f32,
+        point_length: usize,
+    ) -> u32;
+    fn s3_arranged_step(mask: u32, register: u32, next: *mut u32, next_length: usize) -> u32;
+    fn s3_points(
+        modulation: u32,
+        symbol: u32,
+        labels: *const u8,
+        labels_length: usize,
+        in_phase: *const f32,
+        in_phase_length: usize,
+        quadrature: *const f32,
+        quadrature_length: usize,
+        i_out: *mut f32,
+        i_length: usize,
+        q_out: *mut f32,
+        q_length: usize,
+    ) -> u32;
 }
 
 /// A state as it is handed over: the plan, the settings, the next slot and the register there.
@@ -587,6 +626,86 @@ pub fn replace_settings(card: &mut [u8], number: u32, plan: &[u8], registers: &[
             plan.len(),
             registers.as_ptr(),
             registers.len(),
+        )
+    }
+}
+
+/// The point of a label, as I and Q. Numbers: 1, 4 (with BPSK also symbol 0), 12, 18.
+pub fn point(modulation: u32, label: u32, symbol: u32, in_phase: &[f32], quadrature: &[f32], point: &mut [f32]) -> u32 {
+    unsafe {
+        s3_point(
+            modulation,
+            label,
+            symbol,
+            in_phase.as_ptr(),
+            in_phase.len(),
+            quadrature.as_ptr(),
+            quadrature.len(),
+            point.as_mut_ptr(),
+            point.len(),
+        )
+    }
+}
+
+/// The point of a label in the signal point arrangement signal, as I and Q. Numbers: 1, 6, 4 (with BPSK also symbol 0), 12, 18.
+#[allow(clippy::too_many_arguments)] // those of the call
+pub fn arranged_point(
+    modulation: u32,
+    label: u32,
+    symbol: u32,
+    in_phase: &[f32],
+    quadrature: &[f32],
+    mask: u32,
+    register: u32,
+    point: &mut [f32],
+) -> u32 {
+    unsafe {
+        s3_arranged_point(
+            modulation,
+            label,
+            symbol,
+            in_phase.as_ptr(),
+            in_phase.len(),
+            quadrature.as_ptr(),
+            quadrature.len(),
+            mask,
+            register,
+            point.as_mut_ptr(),
+            point.len(),
+        )
+    }
+}
+
+/// Steps the register of the signal point arrangement signal. Every answer writes a `next` of one number: the register one step
+/// on, or 0 with a refusal. Numbers: 6, 4.
+pub fn arranged_step(mask: u32, register: u32, next: &mut [u32]) -> u32 {
+    unsafe { s3_arranged_step(mask, register, next.as_mut_ptr(), next.len()) }
+}
+
+/// The points of labels. Numbers: 1, 4 (with BPSK also symbol 0), 12, 18.
+pub fn points(
+    modulation: u32,
+    symbol: u32,
+    labels: &[u8],
+    in_phase: &[f32],
+    quadrature: &[f32],
+    i_out: &mut [f32],
+    q_out: &mut [f32],
+) -> u32 {
+    unsafe {
+        s3_points(
+            modulation,
+            symbol,
+            labels.as_ptr(),
+            labels.len(),
+            in_phase.as_ptr(),
+            in_phase.len(),
+            quadrature.as_ptr(),
+            quadrature.len(),
+            i_out.as_mut_ptr(),
+            i_out.len(),
+            q_out.as_mut_ptr(),
+            q_out.len(),
         )
     }
 }

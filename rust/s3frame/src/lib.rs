@@ -38,6 +38,7 @@ mod modulation;
 mod numbered;
 mod packets;
 mod plan;
+mod points;
 mod rate;
 mod refusal;
 mod settings;
@@ -55,6 +56,7 @@ pub use lengths::{
 pub use modulation::Modulation;
 pub use packets::{pack, unpack};
 pub use plan::{Group, Place, Plan};
+pub use points::{ArrangedRegister, Constellation, Point};
 pub use rate::Rate;
 pub use refusal::Refusal;
 pub use settings::{read_settings, replace_settings, Settings};

@@ -15,6 +15,11 @@ numbered! {
 }
 
 impl Modulation {
+    /// How many labels there are, and so points.
+    pub fn points(self) -> usize {
+        1 << self.number()
+    }
+
     /// How many labels a slot has.
     pub fn labels(self) -> usize {
         8 * SLOT_OCTETS / self.number() as usize
@@ -41,6 +46,11 @@ mod tests {
             assert_eq!((modulation.number(), modulation.to_string()), (number, name.to_string()));
         }
         assert_eq!([0, 6, 257, u32::MAX].map(Modulation::from_number), [None; 4]);
+    }
+
+    #[test]
+    fn points_of_the_modulations() {
+        assert_eq!(Modulation::ALL.map(Modulation::points), [2, 4, 8, 16, 32]);
     }
 
     #[test]

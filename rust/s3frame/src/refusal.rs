@@ -23,6 +23,7 @@ numbered! {
         Total = 15 "the slots of all groups do not add to 120",
         Packet = 16 "a TLV head is wrong, a null body holds another octet, or a head or length runs past the packets",
         Block = 17 "the card has no block of this number, or its mark, edition or sum is wrong, or a filler isn't zero",
+        Coordinate = 18 "a coordinate that is used is infinite or not a number",
     }
 }
 
@@ -46,6 +47,7 @@ impl Refusal {
             Refusal::Total => "total",
             Refusal::Packet => "packet",
             Refusal::Block => "block",
+            Refusal::Coordinate => "coordinate",
         }
     }
 }
@@ -74,7 +76,7 @@ mod tests {
     #[test]
     fn the_numbers_and_words_of_the_documents() {
         let up_to_9 = (1..).zip("plan dummy full length table register sync parity BCH".split(' '));
-        let from_11_on = (11..).zip("tail label value order total packet block".split(' '));
+        let from_11_on = (11..).zip("tail label value order total packet block coordinate".split(' '));
         let words: Vec<(u32, &str)> = up_to_9.chain(from_11_on).collect();
         assert_eq!(words.len(), Refusal::ALL.len());
         for (number, word) in words {
@@ -82,7 +84,7 @@ mod tests {
             assert_eq!((refusal.number(), refusal.word()), (number, word));
             assert_eq!(answer(number), Err(refusal));
         }
-        assert_eq!([0, 10, 18].map(Refusal::from_number), [None; 3]);
+        assert_eq!([0, 10, 19].map(Refusal::from_number), [None; 3]);
         assert_eq!(answer(0), Ok(()));
     }
 

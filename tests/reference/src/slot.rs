@@ -25,6 +25,7 @@ pub const ORDER_WRONG: u8 = 14;
 pub const TOTAL_WRONG: u8 = 15;
 pub const PACKET_WRONG: u8 = 16;
 pub const BLOCK_WRONG: u8 = 17;
+pub const COORDINATE_WRONG: u8 = 18;
 
 /// What a rate fixes: its table and the generator of the outer code.
 pub struct Code {

@@ -4,6 +4,7 @@
 #![allow(dead_code)] // each test file uses a part of this
 pub mod cards;
 pub mod faults;
+pub mod points;
 pub mod tlv;
 use reference::calls::State;
 use reference::ldpc::{GROUP, ROWS};

@@ -11,6 +11,7 @@ mod frames;
 mod labels;
 mod packets;
 mod plans;
+mod points;
 mod rates;
 mod settings;
 mod slot_packets;
