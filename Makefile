@@ -36,11 +36,11 @@ uninstall: ## removes the four files again, under the same PREFIX and DESTDIR
 soak: packages lib ## the tests of the Rust crate on twenty times as many inputs; S3_SEED sets their seed
 	S3_SOAK=20 tests/rust/run
 
-bench: packages lib ## times coding and reading slots and frames, filling and reading TLV packets, the proved code beside Rust and, where it is installed, GNU Radio
+bench: packages lib ## times coding and reading slots and frames, filling and reading TLV packets, making signal points, the proved code beside Rust and, where it is installed, GNU Radio
 	tools/prove check test_bench
 	cargo build --quiet --release --offline --locked --manifest-path tests/reference/Cargo.toml --target-dir target/reference
 	tools/bench
-	S3FRAME_LIB_DIR=$(CURDIR)/target/staticlib cargo bench --quiet --offline --locked --manifest-path rust/s3frame/Cargo.toml --target-dir target/rust --bench tlv
+	S3FRAME_LIB_DIR=$(CURDIR)/target/staticlib cargo bench --quiet --offline --locked --manifest-path rust/s3frame/Cargo.toml --target-dir target/rust --bench tlv --bench points
 
 packages: ## installs what is missing of .ci/packages
 	tools/packages

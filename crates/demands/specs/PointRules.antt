@@ -14,7 +14,7 @@ use lib.Ieee.Fits.{neg-fits}
 use lib.IntN.{ℤ}
 use lib.ListN.{length, getD}
 use Rattle.lists.specs.Choice.{pick, andThen}
-use Rattle.lists.specs.ChoiceLaws.{pick-each, and-left, and-right, and-both, or-true, then-zero, then-both, not-refused}
+use Rattle.lists.specs.ChoiceLaws.{pick-each, and-left, and-right, and-both, or-cases, then-zero, then-both, not-refused}
 use Rattle.lists.specs.Count.{every}
 use Rattle.lists.specs.CountLaws.{every-at, every-all}
 use Rattle.refusal.specs.Numbers.{PLAN, LENGTH, REGISTER, LABEL, COORDINATE}
@@ -114,11 +114,11 @@ signs-turned : SignsTurned
 signs-turned = record { bits = go; zero = refl; minus-zero = refl }
   where
     go : (x : Float) → T (fits binary32 x) → isNan x ≡ false → toBits binary32 (neg x) ≡ (toBits binary32 x + 2 ^ 31) % 2 ^ 32
-    go nan f n = ?
-    go (inf true) f n = ?
-    go (inf false) f n = ?
-    go (fin true m e) f n = ?
-    go (fin false m e) f n = ?
+    go nan f n = absurd (false≢true (sym n))
+    go (inf true) f n = refl
+    go (inf false) f n = refl
+    go (fin true m e) f n = omega (arith, signed m e, toBits-lt binary32 (fin true m e) f)
+    go (fin false m e) f n = omega (arith, signed m e, toBits-lt binary32 (fin true m e) (neg-fits binary32 (fin false m e) f))
 
 pub coordinates-exact : CoordinatesExact
 coordinates-exact = (coordinates-lent, signs-turned)
@@ -181,7 +181,59 @@ unused-unseen m label symbol ins quads ins' quads' k l i q = (rw (k, l, i, q), r
 -- a later symbol has a number where the first has
 later : (m symbol r : ℕ) → symbolOk m symbol ≡ true → symbolOk m (symbol + r) ≡ true
 unfolding symbolOk
-later m symbol r h = ?
+later m symbol r h =
+    or-cases (not (eqb m bpsk)) (ltb 0 symbol) h (λ a. rw a) (λ a b. rw (a, lt-ltb 0 (symbol + r) (omega (arith, ltb-true 0 symbol b))))
+
+-- what is lent is right for a later symbol too
+lent-later : (m symbol r ins quads : ℕ) {register room : Bool} → Lent m symbol ins quads register room → lentOk m (symbol + r) ins quads ≡ true
+unfolding lentOk
+lent-later m symbol r ins quads l =
+    and-both (eqb ins (2 ^ m)) _ (eq-eqb ins (2 ^ m) (l .in-phase))
+    (and-both (eqb quads (2 ^ m)) _ (eq-eqb quads (2 ^ m) (l .quadrature)) (later m symbol r (l .numbered)))
+
+-- a label that is accepted
+record Taken (m label symbol : ℕ) (ins quads : List Float) : Type 0 where
+  lent-right : Lent m symbol (length ins) (length quads) true true
+  label-right : ltb label (2 ^ m) ≡ true
+  used-right : usedOk ins quads label ≡ true
+
+taken : (m label symbol : ℕ) (ins quads : List Float) → pointNumber m label symbol ins quads ≡ 0 → Taken m label symbol ins quads
+unfolding mappedNumber
+taken m label symbol ins quads h =
+    let a = then-zero (lentNumber m true (lentOk m symbol (length ins) (length quads) && true)) _ h in
+    let b = then-zero (pick (ltb label (2 ^ m)) 0 LABEL) _ (a .1) in
+    record {
+      lent-right = lent m symbol (length ins) (length quads) true true (a .0);
+      label-right = not-refused (ltb label (2 ^ m)) LABEL (omega arith) (b .0);
+      used-right = not-refused (usedOk ins quads label) COORDINATE (omega arith) (b .1);
+    }
+
+module _ (m symbol : ℕ) (labels : List ℕ) (ins quads : List Float) where
+  -- of an accepted run each label is accepted
+  each-taken : (i q : ℕ) → pointsNumber m symbol labels ins quads i q ≡ 0 → (r : ℕ) → r < length labels → pointNumber m (getD labels r 0) (symbol + r) ins quads ≡ 0
+  unfolding pointsNumber labelNumber usedNumber
+  each-taken i q h r b =
+      let a = then-zero (lentNumber m true (lentOk m symbol (length ins) (length quads) && roomOk (length labels) i q)) _ h in
+      let d = then-zero (labelNumber m labels) _ (a .1) in
+      let l = lent m symbol (length ins) (length quads) true (roomOk (length labels) i q) (a .0) in
+      let f : ℕ → Bool = λ k. ltb (getD labels k 0) (2 ^ m) in
+      let g : ℕ → Bool = λ k. usedOk ins quads (getD labels k 0) in
+      points-refused .point m (getD labels r 0) (symbol + r) ins quads .none (l .known) refl (lent-later m symbol r _ _ l)
+      (every-at (length labels) f (not-refused (every (length labels) f) LABEL (omega arith) (d .0)) r b)
+      (every-at (length labels) g (not-refused (every (length labels) g) COORDINATE (omega arith) (d .1)) r b)
+
+  -- and a run of accepted labels is
+  all-taken : 0 < length labels → ((r : ℕ) → r < length labels → pointNumber m (getD labels r 0) (symbol + r) ins quads ≡ 0)
+      → pointsNumber m symbol labels ins quads (length labels) (length labels) ≡ 0
+  unfolding roomOk
+  all-taken some h =
+      let z : symbol + 0 ≡ symbol = omega arith in
+      let l = rw z at (taken m (getD labels 0 0) (symbol + 0) ins quads (h 0 some) .lent-right) in
+      let y : lentOk m symbol (length ins) (length quads) ≡ true = rw z at (lent-later m symbol 0 (length ins) (length quads) l) in
+      points-refused .run m symbol labels ins quads (length labels) (length labels) .none (l .known) refl
+      (rw (y, eq-eqb (length labels) (length labels) refl))
+      (every-all (length labels) _ (λ r b. taken m (getD labels r 0) (symbol + r) ins quads (h r b) .label-right))
+      (every-all (length labels) _ (λ r b. taken m (getD labels r 0) (symbol + r) ins quads (h r b) .used-right))
 
 pub run-one-by-one : RunOneByOne
 run-one-by-one m symbol labels ins quads =
@@ -190,6 +242,6 @@ run-one-by-one m symbol labels ins quads =
       q-long = length-quadrature m symbol labels ins quads;
       i = in-phase-at m symbol labels ins quads;
       q = quadrature-at m symbol labels ins quads;
-      each = ?;
-      all = ?;
+      each = each-taken m symbol labels ins quads;
+      all = all-taken m symbol labels ins quads;
     }

@@ -6,8 +6,8 @@
 //! written overlaps another.
 //!
 //! A plan is lent as three octets for each group: modulation, rate, slots. `next` takes two numbers: of a slot call the next
-//! slot and its register, of a TLV call what it says. Each call's numbers are listed in the order in which they are tested;
-//! slot number 0 is 1 wherever a slot is named.
+//! slot and its register, of a TLV call what it says; of a step of the arrangement signal's register it takes one. Each
+//! call's numbers are listed in the order in which they are tested; slot number 0 is 1 wherever a slot is named.
 
 extern "C" {
     fn s3_open(plan: *const u8, plan_length: usize, mask: u32, start: u32, next: *mut u32, next_length: usize) -> u32;

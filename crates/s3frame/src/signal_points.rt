@@ -36,7 +36,14 @@ pub extern "C" fn s3_arranged_point(
     ensures { λ r. ⌜ Answered (arrangedCall modulation label symbol (now (in_phase .entry)) (now (quadrature .entry)) mask register (length (now (point .entry)))) (coordinates (arrangedOf register (pointOf modulation symbol (now (in_phase .entry)) (now (quadrature .entry)) label))) (now (point .entry)) r (now (point .exit)) ⌝ }
 {
     c_points::arranged_point(
-        modulation, label, symbol, in_phase, quadrature, mask, register, point,
+        modulation,
+        label,
+        symbol,
+        in_phase,
+        quadrature,
+        mask,
+        register,
+        point,
     )
 }
 
