@@ -1,10 +1,8 @@
 -- Laws of the calls for C on signal points: an answer put into its area, and modulations as they were handed over.
-use mathlib.Core.Path.{_≡_, refl, sym}
+use mathlib.Core.Path.{_≡_, refl, ap}
 use mathlib.Core.Bool.{Bool}
-use mathlib.Core.List.{List, [], _∷_}
+use mathlib.Core.List.{List}
 use Prim.Native.Nat.{ℕ}
-use native.Mathlib.Decide.{ℕ-discrete}
-use native.Mathlib.Omega.{arith}
 use borrow.Author.Tests.{eq-eqb, ne-eqb}
 use lib.Ieee.{Float}
 use Rattle.refusal.specs.Answers.{Answered}
@@ -13,6 +11,7 @@ use Rattle.points.specs.declared.PointAnswer.{PointAnswer}
 use Rattle.points.specs.declared.PointAnswer.the-variants.{At, Refused}
 use Rattle.points.specs.Points.{pointOf}
 use Rattle.points.specs.Answers.{coordinates, numberOf, Answers}
+use Rattle.points.specs.AnswerLaws.{point-answered, refusal-answered}
 use Rattle.points.specs.Numbers.{mappedNumber, pointsNumber}
 use Rattle.points.specs.NumberLaws.{mapped-unknown, points-unknown}
 use Rattle.c_boundary.specs.Narrow.{narrowed}
@@ -22,16 +21,11 @@ use Rattle.c_points.specs.Calls.{pointLeft}
 -- an answer, put into its area
 put : (n : ℕ) (p : Point) (a : PointAnswer) (found : List Float) → Answers n p a → Answered n (coordinates p) found (numberOf a) (pointLeft a found)
 put n p (At r) found a =
-    let z : n ≡ 0 = sym (a .number) in
-    record { number = a .number; area = rw (eq-eqb n 0 z) (rw (eq-eqb n 0 z) at (a .values)) }
-put n p (Refused k) found a = go (ℕ-discrete n 0)
-  where
-    go : Dec (n ≡ 0) → Answered n (coordinates p) found k found
-    go (yes z) =
-        let e : [] ≡ coordinates p = rw (eq-eqb n 0 z) at (a .values) in
-        let x : _≡_ {A = ℕ} 0 1 = cc in
-        absurd (omega arith)
-    go (no d) = record { number = a .number; area = rw (ne-eqb n 0 d) }
+    let f = point-answered n p r a in
+    record { number = a .number; area = rw (eq-eqb n 0 (f .0)) (ap coordinates (f .1)) }
+put n p (Refused k) found a =
+    let f = refusal-answered n k p a in
+    record { number = f .0; area = rw (ne-eqb n 0 (f .1)) }
 
 module _ (symbol : ℕ) (ins quads found : List Float) (r : ℕ) (left : List Float) where
   -- an answer for the narrowed modulation, in its area, is one for the modulation; a turn by the register, or none, goes through

@@ -1,48 +1,42 @@
 -- Document 02, N6, proved.
 use mathlib.Core.Path.{_≡_, refl, sym, ap, ap₂, _∙_}
-use mathlib.Core.Bool.{Bool, true, false, not, _&&_, _||_, false≢true}
-use mathlib.Core.List.{List, [], _∷_}
-use mathlib.Core.Logic.{_⊎_, inl, inr}
+use mathlib.Core.Bool.{Bool, true, false, not, _&&_, false≢true}
+use mathlib.Core.List.{List}
+use mathlib.Core.Logic.{inl, inr}
 use Prim.Native.Nat.{ℕ, _+_, _*_, _%_, _^_, _<_}
-use native.Mathlib.Decide.{ℕ-discrete}
 use native.Mathlib.Omega.{arith}
-use borrow.Author.Tests.{eq-eqb, ne-eqb, eqb-true, ltb-true, lt-ltb}
+use borrow.Author.Tests.{eq-eqb, ne-eqb, ltb-true, lt-ltb}
 use lib.Dec.{T, eqb, ltb}
-use lib.Ieee.{Float, nan, inf, fin, binary32, neg, isNan, fits, toBits, ofBits, top as signWeight}
+use lib.Ieee.{Float, nan, inf, fin, binary32, neg, isNan, fits, toBits, ofBits}
 use lib.Ieee.Bits.{toBits-lt}
 use lib.Ieee.Fits.{neg-fits}
 use lib.IntN.{ℤ}
 use lib.ListN.{length, getD}
 use Rattle.lists.specs.Choice.{pick, andThen}
-use Rattle.lists.specs.ChoiceLaws.{pick-each, and-left, and-right, and-both, or-cases, then-zero, then-both, not-refused}
+use Rattle.lists.specs.ChoiceLaws.{pick-each, and-left, and-right, and-both, or-cases, then-zero, not-refused}
 use Rattle.lists.specs.Count.{every}
 use Rattle.lists.specs.CountLaws.{every-at, every-all}
 use Rattle.refusal.specs.Numbers.{PLAN, LENGTH, REGISTER, LABEL, COORDINATE}
-use Rattle.dispersal.specs.Register.{step, top, maskOk, registerOk, settingsOk}
+use Rattle.dispersal.specs.Register.{top, maskOk, settingsOk}
 use Rattle.dispersal.specs.RegisterLaws.{after-none, after-more, after-ok}
 use Rattle.plan.specs.Rates.{modulationOk}
 use Rattle.symbols.specs.Labels.{labelNumber}
 use Rattle.points.specs.declared.Point.{Point}
-use Rattle.points.specs.declared.PointAnswer.{PointAnswer}
 use Rattle.points.specs.declared.PointAnswer.the-variants.{At, Refused}
-use Rattle.points.specs.Points.{quarterTurn, halfTurn, lentPoint, bpsk, shifted, pointOf, arrangedWidth, arrangedOf, inPhaseOf, quadratureOf, usedOk}
+use Rattle.points.specs.Points.{quarterTurn, halfTurn, lentPoint, bpsk, shifted, pointOf, arrangedWidth, arrangedOf, usedOk}
 use Rattle.points.specs.PointLaws.{length-in-phase, length-quadrature, in-phase-at, quadrature-at}
-use Rattle.points.specs.Answers.{coordinates, Answers}
-use Rattle.points.specs.AnswerLaws.{same-point}
-use Rattle.points.specs.Numbers.{symbolOk, lentOk, lentNumber, mappedNumber, roomOk, usedNumber, pointNumber, arrangedNumber, pointsNumber, stepAnswer}
+use Rattle.points.specs.AnswerLaws.{point-answered, refusal-answered}
+use Rattle.points.specs.Numbers.{symbolOk, lentOk, lentNumber, mappedNumber, roomOk, usedNumber, pointNumber, pointsNumber, stepAnswer}
 use Rattle.points.specs.NumberLaws.{Lent, lent}
-use Rattle.demands.specs.PointRequests.{PointOrRefusal, OneAnswer, SymbolsTurned, ArrangedTurned, ArrangedStepped, EntryOrNegation, CoordinatesLent, SignsTurned, CoordinatesExact, TurnsBack, InOrder, PointsRefused, UnusedUnseen, OneByOne, RunOneByOne}
+use Rattle.demands.specs.PointRequests.{OneAnswer, SymbolsTurned, ArrangedTurned, ArrangedStepped, EntryOrNegation, CoordinatesLent, SignsTurned, CoordinatesExact, TurnsBack, InOrder, PointsRefused, UnusedUnseen, RunOneByOne}
 
 pub one-answer : OneAnswer
 one-answer n p (At r) a =
-    let z : n ≡ 0 = sym (a .number) in
-    let e : coordinates r ≡ coordinates p = rw (eq-eqb n 0 z) at (a .values) in
-    record { accepted = λ y. ap At (same-point r p e); refused = λ d. absurd (d z) }
+    let f = point-answered n p r a in
+    record { accepted = λ z. ap At (f .1); refused = λ d. absurd (d (f .0)) }
 one-answer n p (Refused k) a =
-    record {
-      accepted = λ z. let e : [] ≡ coordinates p = rw (eq-eqb n 0 z) at (a .values) in let x : _≡_ {A = ℕ} 0 1 = cc in absurd (omega arith);
-      refused = λ d. ap Refused (a .number);
-    }
+    let f = refusal-answered n k p a in
+    record { accepted = λ z. absurd (f .1 z); refused = λ d. ap Refused (f .0) }
 
 pub symbols-turned : SymbolsTurned
 unfolding pointOf shifted
@@ -101,8 +95,8 @@ coordinates-lent m symbol ins quads label =
     record {
       i = i;
       q = q;
-      arranged-i = λ register. pick-each (λ (x : Point). EntryOrNegation ins quads label (x .i)) (eqb (top arrangedWidth register) 1) {a = halfTurn p} {b = p} (negated _ _ _ _ i) i;
-      arranged-q = λ register. pick-each (λ (x : Point). EntryOrNegation ins quads label (x .q)) (eqb (top arrangedWidth register) 1) {a = halfTurn p} {b = p} (negated _ _ _ _ q) q;
+      arranged-i = λ register. pick-each (λ (x : Point). EntryOrNegation ins quads label (x .i)) (eqb (top arrangedWidth register) 1) {a = halfTurn p} {b = p} (negated ins quads label _ i) i;
+      arranged-q = λ register. pick-each (λ (x : Point). EntryOrNegation ins quads label (x .q)) (eqb (top arrangedWidth register) 1) {a = halfTurn p} {b = p} (negated ins quads label _ q) q;
     }
 
 -- the sign stands in the bit of weight 2^31
@@ -110,15 +104,21 @@ signed : (m : ℕ) (e : ℤ) → toBits binary32 (fin true m e) ≡ 2 ^ 31 + toB
 unfolding toBits
 signed m e = omega arith
 
+infinite : (s : Bool) → toBits binary32 (inf (not s)) ≡ (toBits binary32 (inf s) + 2 ^ 31) % 2 ^ 32
+unfolding toBits
+infinite true = refl
+infinite false = refl
+
+sign-turned : (x : Float) → T (fits binary32 x) → isNan x ≡ false → toBits binary32 (neg x) ≡ (toBits binary32 x + 2 ^ 31) % 2 ^ 32
+unfolding isNan neg
+sign-turned nan f n = absurd (false≢true (sym n))
+sign-turned (inf s) f n = infinite s
+sign-turned (fin true m e) f n = omega (arith, signed m e, toBits-lt binary32 (fin true m e) f)
+sign-turned (fin false m e) f n = omega (arith, signed m e, toBits-lt binary32 (fin true m e) (neg-fits binary32 (fin false m e) f))
+
 signs-turned : SignsTurned
-signs-turned = record { bits = go; zero = refl; minus-zero = refl }
-  where
-    go : (x : Float) → T (fits binary32 x) → isNan x ≡ false → toBits binary32 (neg x) ≡ (toBits binary32 x + 2 ^ 31) % 2 ^ 32
-    go nan f n = absurd (false≢true (sym n))
-    go (inf true) f n = refl
-    go (inf false) f n = refl
-    go (fin true m e) f n = omega (arith, signed m e, toBits-lt binary32 (fin true m e) f)
-    go (fin false m e) f n = omega (arith, signed m e, toBits-lt binary32 (fin true m e) (neg-fits binary32 (fin false m e) f))
+unfolding neg ofBits toBits
+signs-turned = record { bits = sign-turned; zero = refl; minus-zero = refl }
 
 pub coordinates-exact : CoordinatesExact
 coordinates-exact = (coordinates-lent, signs-turned)
@@ -152,6 +152,10 @@ ordered a b c d e =
       none = λ p q r s t. rw (p, q, r, s, t);
     }
 
+and-false : (b : Bool) → (b && false) ≡ false
+and-false true = refl
+and-false false = refl
+
 and-true : (b : Bool) → (b && true) ≡ b
 and-true true = refl
 and-true false = refl
@@ -170,7 +174,7 @@ points-refused =
       point = λ m label symbol ins quads. mapped-ordered true m label symbol ins quads;
       arranged = λ m label symbol ins quads mask register. mapped-ordered (settingsOk arrangedWidth mask register) m label symbol ins quads;
       run = λ m symbol labels ins quads i q. ordered (modulationOk m) true (lentOk m symbol (length ins) (length quads) && roomOk (length labels) i q) (every (length labels) (λ r. ltb (getD labels r 0) (2 ^ m))) (every (length labels) (λ r. usedOk ins quads (getD labels r 0)));
-      symbol-0 = λ ins quads. ?;
+      symbol-0 = λ ins quads. ap (λ (t : Bool). eqb ins 2 && t) (and-false (eqb quads 2)) ∙ and-false (eqb ins 2);
       symbol-any = λ m symbol ins quads d. rw (ne-eqb m 1 d);
     }
 

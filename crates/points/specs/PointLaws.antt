@@ -1,14 +1,13 @@
 -- Laws of points: what comparing with the infinities says, and turns that lead back.
-use mathlib.Core.Path.{_≡_, refl, sym, ap, ap₂}
-use mathlib.Core.Bool.{Bool, true, false, not, false≢true}
+use mathlib.Core.Path.{_≡_, refl, sym}
+use mathlib.Core.Bool.{true, false, false≢true}
 use mathlib.Core.List.{List}
 use Prim.Native.Nat.{ℕ, _+_, _<_}
 use lib.Ieee.{Float, nan, inf, fin, binary32, ofBits, neg, lt}
 use lib.Ieee.Scale.{finite}
 use lib.ListN.{length, getD}
 use Rattle.lists.specs.CountLaws.{length-table, table-at}
-use Rattle.points.specs.declared.Point.{Point}
-use Rattle.points.specs.Points.{quarterTurn, halfTurn, pointOf, inPhaseOf, quadratureOf}
+use Rattle.points.specs.Points.{pointOf, inPhaseOf, quadratureOf}
 
 pub infinity : ofBits binary32 0x7f80_0000 ≡ inf false
 unfolding ofBits

@@ -1,7 +1,6 @@
 -- `c_points::arranged_step`: the area's length decides what is left there; 6 goes before it.
 use mathlib.Core.Path.{_≡_, _∙_, ap, sym}
-use mathlib.Core.List.{List, [], _∷_}
-use Prim.Native.Nat.{ℕ}
+use mathlib.Core.List.{[], _∷_}
 use borrow.Author.Needs.{needs}
 use borrow.Author.Tests.{eq-eqb, ne-eqb}
 use Rattle.lists.specs.ChoiceLaws.{then-first, then-next, then-none}

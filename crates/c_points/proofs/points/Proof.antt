@@ -1,5 +1,4 @@
 -- `c_points::points`: the entry's answer, for the modulation as it was handed over.
-use mathlib.Core.Path.{_∙_, sym}
 use Prim.Native.Nat.{ℕ}
 use borrow.Author.Needs.{needs}
 use Rattle.points.specs.Points.{inPhaseOf, quadratureOf}

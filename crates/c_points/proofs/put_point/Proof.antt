@@ -3,7 +3,6 @@ use mathlib.Core.Path.{_≡_, _∙_, ap, sym}
 use Prim.Native.Nat.{_<_}
 use native.Mathlib.Omega.{arith}
 use borrow.Author.Needs.{needs}
-use lib.Ieee.{Float}
 use lib.ListN.{length, length-set}
 use Rattle.points.specs.declared.PointAnswer.{PointAnswer}
 use Rattle.points.specs.Answers.{numberOf}

@@ -1,8 +1,5 @@
 -- `points::arranged`: the point of the symbol, turned.
-use mathlib.Core.Path.{_∙_, ap, subst, sym}
 use borrow.Author.Needs.{needs}
-use Rattle.points.specs.declared.PointAnswer.{PointAnswer}
-use Rattle.points.specs.Answers.{Answers}
 use Rattle.points.specs.AnswerLaws.{turned}
 use Rattle.points.proofs.calls.arranged.Statement.{statement}
 use Rattle.points.proofs.calls.arranged.Tie as tie

@@ -3,9 +3,7 @@ use mathlib.Core.Path.{_∙_, ap, sym}
 use borrow.Author.Needs.{needs}
 use borrow.Author.Tests.{eq-eqb, ne-eqb}
 use Rattle.dispersal.specs.Register.{top}
-use Rattle.points.specs.declared.Point.{Point}
-use Rattle.points.specs.declared.PointAnswer.{PointAnswer}
-use Rattle.points.specs.declared.PointAnswer.the-variants.{At, Refused}
+use Rattle.points.specs.declared.PointAnswer.the-variants.{At}
 use Rattle.points.specs.Points.{arrangedOf}
 use Rattle.points.specs.Answers.{turnedAnswer}
 use Rattle.points.proofs.calls.turned.Statement.{statement}

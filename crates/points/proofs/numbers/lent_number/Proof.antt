@@ -1,6 +1,5 @@
 -- `points::lent_number`: each way out rewrites with the tests on the way to it.
 use mathlib.Core.Path.{_∙_, sym}
-use native.Mathlib.Omega.{arith}
 use borrow.Author.Needs.{needs}
 use borrow.Author.Tests.{leb-true}
 use lib.Dec.{leb}

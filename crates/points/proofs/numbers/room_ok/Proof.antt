@@ -1,5 +1,4 @@
 -- `points::room_ok`: one length, then the other.
-use borrow.Author.Needs.{needs}
 use borrow.Author.Tests.{eq-eqb, ne-eqb}
 use Rattle.points.specs.Numbers.{roomOk}
 use Rattle.points.proofs.numbers.room_ok.Statement.{statement}
