@@ -6,6 +6,7 @@ use mathlib.Core.Logic.{_⊎_}
 use Prim.Native.Nat.{ℕ, _+_, _*_, _%_, _^_, _<_}
 use lib.Dec.{T, ltb}
 use lib.Ieee.{Float, nan, binary32, neg, isNan, fits, toBits, ofBits}
+use lib.Ieee.Scale.{finite}
 use lib.ListN.{length, getD}
 use Rattle.lists.specs.Count.{every}
 use Rattle.refusal.specs.Numbers.{PLAN, LENGTH, REGISTER, LABEL, COORDINATE}
@@ -70,6 +71,17 @@ pub record SignsTurned : Type 0 where
 
 abbrev pub CoordinatesExact : Type 0
 CoordinatesExact = ((m symbol : ℕ) (ins quads : List Float) (label : ℕ) → CoordinatesLent m symbol ins quads label) × SignsTurned
+
+-- no accepted call gives out an infinity or a NaN
+pub record Finite (p : Point) : Type 0 where
+  pub i : finite (p .i) ≡ true
+  pub q : finite (p .q) ≡ true
+
+pub record PointsFinite : Type 0 where
+  pub point : (m label symbol : ℕ) (ins quads : List Float) → pointNumber m label symbol ins quads ≡ 0 → Finite (pointOf m symbol ins quads label)
+  pub arranged : (m label symbol : ℕ) (ins quads : List Float) (mask register : ℕ)
+      → arrangedNumber m label symbol ins quads mask register ≡ 0
+      → Finite (arrangedOf register (pointOf m symbol ins quads label))
 
 -- "two half turns give the lent point back", and so do four quarter turns, of which two are a half turn
 pub record TurnsBack (p : Point) : Type 0 where

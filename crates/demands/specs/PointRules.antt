@@ -10,6 +10,7 @@ use lib.Dec.{T, eqb, ltb}
 use lib.Ieee.{Float, nan, inf, fin, binary32, neg, isNan, fits, toBits, ofBits}
 use lib.Ieee.Bits.{toBits-lt}
 use lib.Ieee.Fits.{neg-fits}
+use lib.Ieee.Scale.{finite}
 use lib.IntN.{ℤ}
 use lib.ListN.{length, getD}
 use Rattle.lists.specs.Choice.{pick, andThen}
@@ -28,7 +29,7 @@ use Rattle.points.specs.PointLaws.{length-in-phase, length-quadrature, in-phase
 use Rattle.points.specs.AnswerLaws.{point-answered, refusal-answered}
 use Rattle.points.specs.Numbers.{symbolOk, lentOk, lentNumber, mappedNumber, roomOk, usedNumber, pointNumber, pointsNumber, stepAnswer}
 use Rattle.points.specs.NumberLaws.{Lent, lent}
-use Rattle.demands.specs.PointRequests.{OneAnswer, SymbolsTurned, ArrangedTurned, ArrangedStepped, EntryOrNegation, CoordinatesLent, SignsTurned, CoordinatesExact, TurnsBack, InOrder, PointsRefused, UnusedUnseen, RunOneByOne}
+use Rattle.demands.specs.PointRequests.{OneAnswer, SymbolsTurned, ArrangedTurned, ArrangedStepped, EntryOrNegation, CoordinatesLent, SignsTurned, CoordinatesExact, Finite, PointsFinite, TurnsBack, InOrder, PointsRefused, UnusedUnseen, RunOneByOne}
 
 pub one-answer : OneAnswer
 one-answer n p (At r) a =
@@ -196,20 +197,47 @@ lent-later m symbol r ins quads l =
     (and-both (eqb quads (2 ^ m)) _ (eq-eqb quads (2 ^ m) (l .quadrature)) (later m symbol r (l .numbered)))
 
 -- a label that is accepted
-record Taken (m label symbol : ℕ) (ins quads : List Float) : Type 0 where
-  lent-right : Lent m symbol (length ins) (length quads) true true
+record Taken (register : Bool) (m label symbol : ℕ) (ins quads : List Float) : Type 0 where
+  lent-right : Lent m symbol (length ins) (length quads) register true
   label-right : ltb label (2 ^ m) ≡ true
   used-right : usedOk ins quads label ≡ true
 
-taken : (m label symbol : ℕ) (ins quads : List Float) → pointNumber m label symbol ins quads ≡ 0 → Taken m label symbol ins quads
+taken : (register : Bool) (m label symbol : ℕ) (ins quads : List Float) → mappedNumber register true m label symbol ins quads ≡ 0 → Taken register m label symbol ins quads
 unfolding mappedNumber
-taken m label symbol ins quads h =
-    let a = then-zero (lentNumber m true (lentOk m symbol (length ins) (length quads) && true)) _ h in
+taken register m label symbol ins quads h =
+    let a = then-zero (lentNumber m register (lentOk m symbol (length ins) (length quads) && true)) _ h in
     let b = then-zero (pick (ltb label (2 ^ m)) 0 LABEL) _ (a .1) in
     record {
-      lent-right = lent m symbol (length ins) (length quads) true true (a .0);
+      lent-right = lent m symbol (length ins) (length quads) register true (a .0);
       label-right = not-refused (ltb label (2 ^ m)) LABEL (omega arith) (b .0);
       used-right = not-refused (usedOk ins quads label) COORDINATE (omega arith) (b .1);
+    }
+
+finite-negated : (x : Float) → finite x ≡ true → finite (neg x) ≡ true
+unfolding neg
+finite-negated nan h = h
+finite-negated (inf s) h = h
+finite-negated (fin s m e) h = h
+
+-- turns keep a point finite
+point-finite : (m symbol : ℕ) (ins quads : List Float) (label : ℕ) → usedOk ins quads label ≡ true → Finite (pointOf m symbol ins quads label)
+unfolding usedOk pointOf shifted
+point-finite m symbol ins quads label h =
+    let i = and-left (finite (getD ins label nan)) _ h in
+    let q = and-right (finite (getD ins label nan)) _ h in
+    pick-each Finite (eqb m bpsk && eqb (symbol % 2) 0) (record { i = finite-negated _ q; q = i }) (record { i = i; q = q })
+
+arranged-finite : (register : ℕ) (p : Point) → Finite p → Finite (arrangedOf register p)
+unfolding arrangedOf
+arranged-finite register p f =
+    pick-each Finite (eqb (top arrangedWidth register) 1) (record { i = finite-negated _ (f .i); q = finite-negated _ (f .q) }) f
+
+pub points-finite : PointsFinite
+points-finite =
+    record {
+      point = λ m label symbol ins quads h. point-finite m symbol ins quads label (taken true m label symbol ins quads h .used-right);
+      arranged = λ m label symbol ins quads mask register h.
+          arranged-finite register _ (point-finite m symbol ins quads label (taken (settingsOk arrangedWidth mask register) m label symbol ins quads h .used-right));
     }
 
 module _ (m symbol : ℕ) (labels : List ℕ) (ins quads : List Float) where
@@ -232,12 +260,12 @@ module _ (m symbol : ℕ) (labels : List ℕ) (ins quads : List Float) where
   unfolding roomOk
   all-taken some h =
       let z : symbol + 0 ≡ symbol = omega arith in
-      let l = rw z at (taken m (getD labels 0 0) (symbol + 0) ins quads (h 0 some) .lent-right) in
+      let l = rw z at (taken true m (getD labels 0 0) (symbol + 0) ins quads (h 0 some) .lent-right) in
       let y : lentOk m symbol (length ins) (length quads) ≡ true = rw z at (lent-later m symbol 0 (length ins) (length quads) l) in
       points-refused .run m symbol labels ins quads (length labels) (length labels) .none (l .known) refl
       (rw (y, eq-eqb (length labels) (length labels) refl))
-      (every-all (length labels) _ (λ r b. taken m (getD labels r 0) (symbol + r) ins quads (h r b) .label-right))
-      (every-all (length labels) _ (λ r b. taken m (getD labels r 0) (symbol + r) ins quads (h r b) .used-right))
+      (every-all (length labels) _ (λ r b. taken true m (getD labels r 0) (symbol + r) ins quads (h r b) .label-right))
+      (every-all (length labels) _ (λ r b. taken true m (getD labels r 0) (symbol + r) ins quads (h r b) .used-right))
 
 pub run-one-by-one : RunOneByOne
 run-one-by-one m symbol labels ins quads =
