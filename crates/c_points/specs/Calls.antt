@@ -9,10 +9,11 @@ use lib.Ieee.{Float}
 use lib.ListN.{length}
 use Rattle.lists.specs.Choice.{pick, andThen}
 use Rattle.refusal.specs.Numbers.{LENGTH}
+use Rattle.refusal.specs.Answers.{Answered}
 use Rattle.dispersal.specs.Register.{settingsOk}
 use Rattle.points.specs.declared.PointAnswer.{PointAnswer}
 use Rattle.points.specs.declared.PointAnswer.the-variants.{At, Refused}
-use Rattle.points.specs.Points.{arrangedWidth}
+use Rattle.points.specs.Points.{pointOf, arrangedWidth, arrangedOf}
 use Rattle.points.specs.Answers.{coordinates}
 use Rattle.points.specs.Numbers.{mappedNumber, stepAnswer}
 
@@ -28,6 +29,16 @@ pointCall m label symbol ins quads room = mappedNumber true (pointRoom room) m l
 abbrev pub arrangedCall : ℕ → ℕ → ℕ → List Float → List Float → ℕ → ℕ → ℕ → ℕ
 arrangedCall m label symbol ins quads mask register room =
     mappedNumber (settingsOk arrangedWidth mask register) (pointRoom room) m label symbol ins quads
+
+-- the point of a label: the call's number r, and the area that it leaves
+abbrev pub Pointed : ℕ → ℕ → ℕ → List Float → List Float → List Float → ℕ → List Float → Type 0
+Pointed m label symbol ins quads point =
+    Answered (pointCall m label symbol ins quads (length point)) (coordinates (pointOf m symbol ins quads label)) point
+
+-- the same in the signal point arrangement signal
+abbrev pub Arranged : ℕ → ℕ → ℕ → List Float → List Float → ℕ → ℕ → List Float → ℕ → List Float → Type 0
+Arranged m label symbol ins quads mask register point =
+    Answered (arrangedCall m label symbol ins quads mask register (length point)) (coordinates (arrangedOf register (pointOf m symbol ins quads label))) point
 
 -- the area after an answer: "a lent area that a refusal leaves as found"
 abbrev pub pointLeft : PointAnswer → List Float → List Float

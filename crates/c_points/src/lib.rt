@@ -2,11 +2,8 @@
 // that signal's register, and the points of a run of labels.
 ghost use mathlib.Core.Path.{_≡_};
 ghost use lib.ListN.{length};
-ghost use Rattle.refusal.specs.Answers.{Answered};
-ghost use Rattle.points.specs.Points.{pointOf, arrangedOf, inPhaseOf, quadratureOf};
-ghost use Rattle.points.specs.Answers.{numberOf, coordinates};
-ghost use Rattle.points.specs.Numbers.{pointsNumber};
-ghost use Rattle.c_points.specs.Calls.{pointLeft, pointCall, arrangedCall, Stepped};
+ghost use Rattle.points.specs.Answers.{numberOf, PointsMade};
+ghost use Rattle.c_points.specs.Calls.{Pointed, Arranged, pointLeft, Stepped};
 use points::PointAnswer;
 
 // How many numbers the areas for a point and for a register have.
@@ -39,7 +36,7 @@ pub fn point(
     quadrature: &[f32],
     area: &mut [f32],
 ) -> u32
-    ensures { λ r. ⌜ Answered (pointCall modulation label symbol (now (in_phase .entry)) (now (quadrature .entry)) (length (now (area .entry)))) (coordinates (pointOf modulation symbol (now (in_phase .entry)) (now (quadrature .entry)) label)) (now (area .entry)) r (now (area .exit)) ⌝ }
+    ensures { λ r. ⌜ Pointed modulation label symbol (now (in_phase .entry)) (now (quadrature .entry)) (now (area .entry)) r (now (area .exit)) ⌝ }
 {
     let m = c_boundary::narrow(modulation);
     let room = area.len() == POINT;
@@ -58,7 +55,7 @@ pub fn arranged_point(
     register: u32,
     area: &mut [f32],
 ) -> u32
-    ensures { λ r. ⌜ Answered (arrangedCall modulation label symbol (now (in_phase .entry)) (now (quadrature .entry)) mask register (length (now (area .entry)))) (coordinates (arrangedOf register (pointOf modulation symbol (now (in_phase .entry)) (now (quadrature .entry)) label))) (now (area .entry)) r (now (area .exit)) ⌝ }
+    ensures { λ r. ⌜ Arranged modulation label symbol (now (in_phase .entry)) (now (quadrature .entry)) mask register (now (area .entry)) r (now (area .exit)) ⌝ }
 {
     let m = c_boundary::narrow(modulation);
     let room = area.len() == POINT;
@@ -91,8 +88,7 @@ pub fn points(
     i: &mut [f32],
     q: &mut [f32],
 ) -> u32
-    ensures { λ r. ⌜ Answered (pointsNumber modulation symbol (now (labels .entry)) (now (in_phase .entry)) (now (quadrature .entry)) (length (now (i .entry))) (length (now (q .entry)))) (inPhaseOf modulation symbol (now (labels .entry)) (now (in_phase .entry)) (now (quadrature .entry))) (now (i .entry)) r (now (i .exit)) ⌝ }
-    ensures { λ r. ⌜ Answered (pointsNumber modulation symbol (now (labels .entry)) (now (in_phase .entry)) (now (quadrature .entry)) (length (now (i .entry))) (length (now (q .entry)))) (quadratureOf modulation symbol (now (labels .entry)) (now (in_phase .entry)) (now (quadrature .entry))) (now (q .entry)) r (now (q .exit)) ⌝ }
+    ensures { λ r. ⌜ PointsMade modulation symbol (now (labels .entry)) (now (in_phase .entry)) (now (quadrature .entry)) (now (i .entry)) (now (q .entry)) r (now (i .exit)) (now (q .exit)) ⌝ }
 {
     let m = c_boundary::narrow(modulation);
     c_boundary::word(points::points_of_labels(m, symbol, labels, in_phase, quadrature, i, q))

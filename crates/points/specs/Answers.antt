@@ -4,11 +4,14 @@ use mathlib.Core.List.{List, [], _∷_}
 use Prim.Native.Nat.{ℕ}
 use lib.Dec.{eqb}
 use lib.Ieee.{Float}
+use lib.ListN.{length}
 use Rattle.lists.specs.Choice.{pick}
+use Rattle.refusal.specs.Answers.{Answered}
 use Rattle.points.specs.declared.Point.{Point}
 use Rattle.points.specs.declared.PointAnswer.{PointAnswer}
 use Rattle.points.specs.declared.PointAnswer.the-variants.{At, Refused}
-use Rattle.points.specs.Points.{arrangedOf}
+use Rattle.points.specs.Points.{arrangedOf, inPhaseOf, quadratureOf}
+use Rattle.points.specs.Numbers.{pointsNumber}
 
 -- "a point with both coordinates": I, then Q
 abbrev pub coordinates : Point → List Float
@@ -33,3 +36,8 @@ pub record Answers (n : ℕ) (p : Point) (r : PointAnswer) : Type 0 where
 abbrev pub turnedAnswer : ℕ → PointAnswer → PointAnswer
 turnedAnswer register (At p) = At (arrangedOf register p)
 turnedAnswer register (Refused n) = Refused n
+
+-- the points of a run of labels: the call's number r, and both areas, left as found by a refusal
+pub record PointsMade (m symbol : ℕ) (labels : List ℕ) (ins quads is qs : List Float) (r : ℕ) (i-left q-left : List Float) : Type 0 where
+  pub in-phase : Answered (pointsNumber m symbol labels ins quads (length is) (length qs)) (inPhaseOf m symbol labels ins quads) is r i-left
+  pub quadrature : Answered (pointsNumber m symbol labels ins quads (length is) (length qs)) (quadratureOf m symbol labels ins quads) qs r q-left

@@ -1,12 +1,10 @@
 // The calls: the point of a symbol, of one of the signal point arrangement signal, the step of that signal's register, and the
 // points of a run of labels.
 ghost use mathlib.Core.Path.{_≡_};
-ghost use lib.ListN.{length};
-ghost use Rattle.refusal.specs.Answers.{Answered};
 ghost use Rattle.dispersal.specs.Register.{settingsOk};
-ghost use Rattle.points.specs.Points.{pointOf, arrangedOf, arrangedWidth, inPhaseOf, quadratureOf};
-ghost use Rattle.points.specs.Answers.{Answers, turnedAnswer};
-ghost use Rattle.points.specs.Numbers.{mappedNumber, pointNumber, arrangedNumber, pointsNumber, stepAnswer};
+ghost use Rattle.points.specs.Points.{pointOf, arrangedOf, arrangedWidth};
+ghost use Rattle.points.specs.Answers.{Answers, turnedAnswer, PointsMade};
+ghost use Rattle.points.specs.Numbers.{mappedNumber, pointNumber, arrangedNumber, stepAnswer};
 use crate::PointAnswer;
 use crate::StepAnswer;
 use crate::mapping::point_of;
@@ -152,8 +150,7 @@ pub fn points_of_labels(
     i: &mut [f32],
     q: &mut [f32],
 ) -> u8
-    ensures { λ r. ⌜ Answered (pointsNumber modulation symbol (now (labels .entry)) (now (in_phase .entry)) (now (quadrature .entry)) (length (now (i .entry))) (length (now (q .entry)))) (inPhaseOf modulation symbol (now (labels .entry)) (now (in_phase .entry)) (now (quadrature .entry))) (now (i .entry)) r (now (i .exit)) ⌝ }
-    ensures { λ r. ⌜ Answered (pointsNumber modulation symbol (now (labels .entry)) (now (in_phase .entry)) (now (quadrature .entry)) (length (now (i .entry))) (length (now (q .entry)))) (quadratureOf modulation symbol (now (labels .entry)) (now (in_phase .entry)) (now (quadrature .entry))) (now (q .entry)) r (now (q .exit)) ⌝ }
+    ensures { λ r. ⌜ PointsMade modulation symbol (now (labels .entry)) (now (in_phase .entry)) (now (quadrature .entry)) (now (i .entry)) (now (q .entry)) r (now (i .exit)) (now (q .exit)) ⌝ }
 {
     let number = points_number(
         modulation,

@@ -1,10 +1,6 @@
 // Signal points of labels.
-ghost use lib.ListN.{length};
-ghost use Rattle.refusal.specs.Answers.{Answered};
-ghost use Rattle.points.specs.Points.{pointOf, arrangedOf, inPhaseOf, quadratureOf};
-ghost use Rattle.points.specs.Answers.{coordinates};
-ghost use Rattle.points.specs.Numbers.{pointsNumber};
-ghost use Rattle.c_points.specs.Calls.{pointCall, arrangedCall, Stepped};
+ghost use Rattle.points.specs.Answers.{PointsMade};
+ghost use Rattle.c_points.specs.Calls.{Pointed, Arranged, Stepped};
 
 // The point of a label, as I and Q; a refusal leaves the area as it was.
 #[no_mangle]
@@ -16,7 +12,7 @@ pub extern "C" fn s3_point(
     quadrature: &[f32],
     point: &mut [f32],
 ) -> u32
-    ensures { λ r. ⌜ Answered (pointCall modulation label symbol (now (in_phase .entry)) (now (quadrature .entry)) (length (now (point .entry)))) (coordinates (pointOf modulation symbol (now (in_phase .entry)) (now (quadrature .entry)) label)) (now (point .entry)) r (now (point .exit)) ⌝ }
+    ensures { λ r. ⌜ Pointed modulation label symbol (now (in_phase .entry)) (now (quadrature .entry)) (now (point .entry)) r (now (point .exit)) ⌝ }
 {
     c_points::point(modulation, label, symbol, in_phase, quadrature, point)
 }
@@ -33,7 +29,7 @@ pub extern "C" fn s3_arranged_point(
     register: u32,
     point: &mut [f32],
 ) -> u32
-    ensures { λ r. ⌜ Answered (arrangedCall modulation label symbol (now (in_phase .entry)) (now (quadrature .entry)) mask register (length (now (point .entry)))) (coordinates (arrangedOf register (pointOf modulation symbol (now (in_phase .entry)) (now (quadrature .entry)) label))) (now (point .entry)) r (now (point .exit)) ⌝ }
+    ensures { λ r. ⌜ Arranged modulation label symbol (now (in_phase .entry)) (now (quadrature .entry)) mask register (now (point .entry)) r (now (point .exit)) ⌝ }
 {
     c_points::arranged_point(
         modulation,
@@ -66,8 +62,7 @@ pub extern "C" fn s3_points(
     i: &mut [f32],
     q: &mut [f32],
 ) -> u32
-    ensures { λ r. ⌜ Answered (pointsNumber modulation symbol (now (labels .entry)) (now (in_phase .entry)) (now (quadrature .entry)) (length (now (i .entry))) (length (now (q .entry)))) (inPhaseOf modulation symbol (now (labels .entry)) (now (in_phase .entry)) (now (quadrature .entry))) (now (i .entry)) r (now (i .exit)) ⌝ }
-    ensures { λ r. ⌜ Answered (pointsNumber modulation symbol (now (labels .entry)) (now (in_phase .entry)) (now (quadrature .entry)) (length (now (i .entry))) (length (now (q .entry)))) (quadratureOf modulation symbol (now (labels .entry)) (now (in_phase .entry)) (now (quadrature .entry))) (now (q .entry)) r (now (q .exit)) ⌝ }
+    ensures { λ r. ⌜ PointsMade modulation symbol (now (labels .entry)) (now (in_phase .entry)) (now (quadrature .entry)) (now (i .entry)) (now (q .entry)) r (now (i .exit)) (now (q .exit)) ⌝ }
 {
     c_points::points(modulation, symbol, labels, in_phase, quadrature, i, q)
 }

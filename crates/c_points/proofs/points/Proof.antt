@@ -16,10 +16,11 @@ returns c =
     let ins = s .in-phase .now in
     let quads = s .quadrature .now in
     let a = rw (n .narrow .ensures) at (p .points-of-labels .ensures) in
-    rw (c .word .ensures) (
-      points-given symbol ins quads _ _ _ _ labels _ _ (λ (m : ℕ). inPhaseOf m symbol labels ins quads) (a .0),
-      points-given symbol ins quads _ _ _ _ labels _ _ (λ (m : ℕ). quadratureOf m symbol labels ins quads) (a .1),
-    )
+    rw (c .word .ensures)
+    (record {
+      in-phase = points-given symbol ins quads _ _ _ _ labels _ _ (λ (m : ℕ). inPhaseOf m symbol labels ins quads) (a .in-phase);
+      quadrature = points-given symbol ins quads _ _ _ _ labels _ _ (λ (m : ℕ). quadratureOf m symbol labels ins quads) (a .quadrature);
+    })
 
 pub points-spec : {M : Type 1} → statement M
 points-spec = tie.close (tie.spec (λ c κs. search needs) (λ c κs. search needs) (λ c κs. search needs) (λ c. search needs) (λ c. search needs) returns)
