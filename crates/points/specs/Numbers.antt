@@ -18,12 +18,12 @@ use Rattle.points.specs.Points.{bpsk, arrangedWidth, usedOk}
 unfoldable pub symbolOk : ℕ → ℕ → Bool
 symbolOk m symbol = not (eqb m bpsk) || ltb 0 symbol
 
--- both lists, given as their lengths, have "one entry for each label", and the symbol number is one
+-- both lists, given as their lengths, have "one entry for each label", and the symbol number is allowed
 unfoldable pub lentOk : ℕ → ℕ → ℕ → ℕ → Bool
 lentOk m symbol ins quads = eqb ins (2 ^ m) && (eqb quads (2 ^ m) && symbolOk m symbol)
 
--- 1, 6 and 4: whether the register can be one is handed in, true where a call has none, and so is whether the areas that the
--- call fills have their lengths
+-- 1, 6 and 4: handed in are whether mask and register are allowed, true where a call has none, and whether what is lent, with
+-- the areas that the call fills, is
 unfoldable pub lentNumber : ℕ → Bool → Bool → ℕ
 lentNumber m register lent = andThen (pick (modulationOk m) 0 PLAN) (andThen (pick register 0 REGISTER) (pick lent 0 LENGTH))
 

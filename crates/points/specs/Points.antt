@@ -32,7 +32,7 @@ bpsk = 1
 unfoldable pub shifted : ℕ → ℕ → Point → Point
 shifted m symbol p = pick (eqb m bpsk && eqb (symbol % 2) 0) (quarterTurn p) p
 
--- the point of a label under modulation m, as symbol number `symbol`
+-- "The modulator wants points, not labels": the point of a label under modulation m, as symbol number `symbol`
 unfoldable pub pointOf : ℕ → ℕ → List Float → List Float → ℕ → Point
 pointOf m symbol ins quads label = shifted m symbol (lentPoint ins quads label)
 

@@ -17,8 +17,8 @@ use crate::turns::half_turn;
 // The width of the register of the signal point arrangement signal.
 const WIDTH: u32 = 15;
 
-// The point of a label, or the refusal. Whether a register that the caller has can be one, and whether an area that it fills has
-// its length, is handed in.
+// The point of a label, or the refusal. Whether mask and register of a caller are allowed, and whether an area that it fills
+// has its length, is handed in.
 pub fn mapped(
     register: bool,
     room: bool,

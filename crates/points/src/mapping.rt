@@ -1,7 +1,5 @@
 // The point of a label, and of each label of a run.
 ghost use mathlib.Core.Path.{_≡_};
-ghost use Prim.Native.Nat.{_<_};
-ghost use lib.ListN.{length};
 ghost use Rattle.points.specs.Points.{shifted, pointOf, usedOk, inPhaseOf, quadratureOf};
 ghost use Rattle.points.specs.Needs.{Listed, Areas};
 use crate::Point;

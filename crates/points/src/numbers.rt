@@ -2,13 +2,12 @@
 ghost use mathlib.Core.Path.{_≡_};
 ghost use mathlib.Core.Bool.{_&&_};
 ghost use Prim.Native.Nat.{_≤_};
-ghost use lib.ListN.{length};
 ghost use Rattle.points.specs.Needs.{AllListed};
 ghost use Rattle.points.specs.Numbers.{symbolOk, lentOk, lentNumber, roomOk, usedNumber, pointsNumber};
 use crate::mapping::BPSK;
 use crate::mapping::used_ok;
 
-// Whether a symbol number is one: 0 is none, where it counts.
+// Whether a symbol number is allowed: 0 is not, where the number counts.
 fn symbol_ok(modulation: u16, symbol: u32) -> bool
     ensures { λ r. ⌜ r ≡ symbolOk modulation symbol ⌝ }
 {
@@ -18,7 +17,7 @@ fn symbol_ok(modulation: u16, symbol: u32) -> bool
     true
 }
 
-// Whether both lists, given as their lengths, have an entry for each label, and the symbol number is one.
+// Whether both lists, given as their lengths, have an entry for each label, and the symbol number is allowed.
 fn lent_ok(modulation: u16, symbol: u32, in_phase: usize, quadrature: usize) -> bool
     requires { ⌜ modulation ≤ 5 ⌝ }
     ensures { λ r. ⌜ r ≡ lentOk modulation symbol in_phase quadrature ⌝ }

@@ -1,4 +1,4 @@
-// Points turned, and whether a coordinate can be one.
+// Points turned, and whether a coordinate is finite.
 ghost use mathlib.Core.Path.{_≡_};
 ghost use lib.Ieee.Scale.{finite};
 ghost use Rattle.points.specs.Points.{quarterTurn, halfTurn};
