@@ -100,24 +100,24 @@ JSON
 pub const POINT_FORM: &str = "\
 FILES
   A slot has 5,610 octets; slots lie end to end. A frame has 673,200 octets: 120 slots, as
-  `s3frame code` writes them.
+  `s3frame code` writes them. Points are I and Q of each symbol in turn, as 32-bit floats with the
+  low octet first: what GNU Radio's file source reads as complex.";
 
-  Coordinates are two texts, one of in-phase and one of quadrature coordinates: one number a line,
-  label 0 first, as many as the modulation has labels: 2, 4, 8, 16 or 32. A label is the symbol's
-  bits as a number, the bit that is read first the highest. Empty lines and lines that begin with
-  # do not count, nor do blanks around a number. A number is decimal, as 0.70710678 or -7.1e-1;
-  the 32-bit float next to it is taken. The text has 65,536 octets at most.
+pub const COORDINATE_FORM: &str = "\
+COORDINATES
+  Two texts, one of in-phase and one of quadrature coordinates: one number a line, label 0 first,
+  as many as the modulation has labels, which are 2, 4, 8, 16 or 32. A label is the bits of a
+  symbol as a number, the bit that is read first the highest. Empty lines and lines that begin
+  with # do not count, nor do blanks around a number. A number is decimal, as 0.7071 or -7.1e-1,
+  or one of inf, -inf and nan; the 32-bit float nearest to it is taken. A text has 65,536 octets
+  at most.
 
-  Points are I and Q of each symbol in turn, as 32-bit floats with the low octet first: what GNU
-  Radio's file source reads as complex. They are the numbers of the texts, and their negatives
-  where points are turned, to the last bit.
+  Points are made of these floats and their negatives, right to the last bit. Which points a
+  modulation has is the caller's to know: none are built in.
 
-  The points of each modulation are the Ministry's to say; no arrangement is built in. Refused:
-
-   1 plan        an unknown modulation or rate
    4 length      another number of coordinates than of labels; with π/2-shift BPSK also symbol 0
-  18 coordinate  a coordinate that is used is infinite or not a number (inf, nan, or too large a
-                 number); one that is not used may be";
+  18 coordinate  a coordinate that is used is infinite or not a number; one that is not used
+                 may be";
 
 pub const MASK: &str =
     "The taps of the slots' 25-bit dispersal register: a number with the weight 2^24, in decimal or behind 0x";

@@ -111,8 +111,8 @@ struct Modulator {
 pub fn run(words: &PointWords) -> Result<Outcome, Failure> {
     let mut files = Files::default();
     let chosen = Chosen::open(&mut files, words)?;
-    let coordinates = Coordinates::open(&mut files, words, chosen.modulation)?;
     let input = files.open(words.input.as_deref(), Content::Binary)?;
+    let coordinates = Coordinates::open(&mut files, words, chosen.modulation)?;
     let output = files.create(words.output.as_deref(), Content::Binary)?;
     let mut picture = files.create_named(words.svg.as_deref(), Content::Text)?;
     let mut report = files.report()?;

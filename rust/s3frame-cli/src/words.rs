@@ -1,8 +1,8 @@
 //! The words of the command line.
 use crate::failure::Failure;
 use crate::help::{
-    page, usage, CARD_FORM, FILE_NAMES, FRAME_FORM, JSON_FORM, MASK, PLAN_FORM, POINT_FORM, POINT_USAGE, START, STATUS,
-    TLV_FORM,
+    page, usage, CARD_FORM, COORDINATE_FORM, FILE_NAMES, FRAME_FORM, JSON_FORM, MASK, PLAN_FORM, POINT_FORM,
+    POINT_USAGE, START, STATUS, TLV_FORM,
 };
 use crate::number::Number;
 use clap::{Args, Parser, Subcommand};
@@ -16,7 +16,8 @@ use std::path::{Path, PathBuf};
 #[command(name = "s3frame", version, after_long_help = page(&[
     "EXAMPLE\n  printf '4 7 115\\n2 3 5\\n' >plan.txt\n  s3frame plan plan.txt\n  \
      s3frame code --plan plan.txt --mask 0x1234567 --start 1 sent.ts -o frames\n  \
-     s3frame monitor --plan plan.txt --mask 0x1234567 --start 1 frames -o back.ts\n  s3frame compare sent.ts back.ts\n\n  \
+     s3frame monitor --plan plan.txt --mask 0x1234567 --start 1 frames -o back.ts\n  s3frame compare sent.ts back.ts\n  \
+     s3frame points --plan plan.txt --group 2 --in-phase i.txt --quadrature q.txt frames -o points.cf32\n\n  \
      truncate -s 32768 card\n  s3frame settings set card 0 --plan plan.txt --mask 0x1234567 --start 1 \\\n      \
      --tmcc-mask 0x4001 --tmcc-start 1\n  s3frame code --settings card --block 0 sent.ts -o frames",
     STATUS,
@@ -206,16 +207,17 @@ pub struct CompareWords {
 ///
 /// Where the input ends inside a slot or a frame, the points of those before it are made.
 #[derive(Args)]
-#[command(override_usage = POINT_USAGE, after_long_help = page(&[POINT_FORM, FILE_NAMES, PLAN_FORM, STATUS,
+#[command(override_usage = POINT_USAGE, after_long_help = page(&[POINT_FORM, FILE_NAMES, COORDINATE_FORM, PLAN_FORM,
+    STATUS,
     "EXAMPLE\n  printf '3 6 120\\n' >one-group.txt\n  \
      s3frame code --plan one-group.txt --mask 0x1234567 --start 1 sent.ts -o frames\n  \
      s3frame points --plan one-group.txt --in-phase examples/points/8psk-in-phase.txt \\\n      \
      --quadrature examples/points/8psk-quadrature.txt frames -o points.cf32 --svg points.svg"]))]
 pub struct PointWords {
-    /// The modulation of slots that lie end to end, as in a plan: 1 to 5
+    /// The modulation of slots that lie end to end, a number as in a plan
     #[arg(long, value_name = "M")]
     modulation: Option<Number>,
-    /// The rate of these slots, as in a plan: 1 to 11
+    /// The rate of slots that lie end to end, a number as in a plan
     #[arg(long, value_name = "R")]
     rate: Option<Number>,
     /// The plan's file, where the slots lie in frames
@@ -224,10 +226,10 @@ pub struct PointWords {
     /// Which group of the plan, from 1, where it has several
     #[arg(long, value_name = "N")]
     group: Option<Number>,
-    /// The in-phase coordinates of the labels
+    /// The in-phase coordinates of the labels; - is standard input
     #[arg(long, value_name = "FILE")]
     pub in_phase: PathBuf,
-    /// The quadrature coordinates of the labels
+    /// The quadrature coordinates of the labels; - is standard input
     #[arg(long, value_name = "FILE")]
     pub quadrature: PathBuf,
     /// The number in the frame, from 1, of the first symbol; it counts for π/2-shift BPSK alone. All slots begin alike, since
@@ -359,30 +361,50 @@ mod tests {
     use super::*;
     use clap::error::ErrorKind;
 
-    /// What the words of a setting name, by the command line.
-    fn setting(line: &str) -> Result<String, String> {
-        let words = line.split(' ').filter(|word| !word.is_empty());
-        let words =
-            Words::try_parse_from(["s3frame", "code"].into_iter().chain(words)).map_err(|error| error.to_string())?;
-        match words.job {
-            Job::Code(words) => words.settings.setting().map(|of| format!("{of:?}")).map_err(|wrong| wrong.to_string()),
-            _ => unreachable!("the job is code"),
-        }
+    /// The job of a command line.
+    fn job(line: &[&str]) -> Job {
+        let words = ["s3frame"].iter().chain(line).flat_map(|words| words.split(' '));
+        Words::try_parse_from(words).expect("words that are known").job
+    }
+
+    /// Every choice of some words, as a number with a bit for each word, the first the lowest.
+    fn choices<'a>(words: &'a [&'a str]) -> impl Iterator<Item = (usize, Vec<&'a str>)> {
+        let chosen = |choice: usize| (0..words.len()).filter(move |word| choice >> word & 1 == 1);
+        (0..1 << words.len()).map(move |choice| (choice, chosen(choice).map(|word| words[word]).collect()))
     }
 
     #[test]
     fn a_setting_is_said_or_kept() {
-        let words = ["--plan p", "--mask 1", "--start 2", "--settings c", "--block 3"];
-        for named in 0..1 << words.len() {
-            let line: Vec<&str> =
-                (0..words.len()).filter(|word| named >> word & 1 == 1).map(|word| words[word]).collect();
-            let found = setting(&line.join(" "));
-            match named {
-                0b00111 => assert!(found.expect("a plan and a register").starts_with("Said")),
-                0b11000 => assert!(found.expect("a card and a block").starts_with("Kept")),
-                _ => assert_eq!(
-                    found.expect_err("neither, or parts"),
+        for (choice, line) in choices(&["--plan p", "--mask 1", "--start 2", "--settings c", "--block 3"]) {
+            let words = match job(&[&["code"], &line[..]].concat()) {
+                Job::Code(words) => words.settings,
+                _ => unreachable!("the job is code"),
+            };
+            match (choice, words.setting()) {
+                (0b00111, found) => assert!(matches!(found, Ok(Setting::Said { .. }))),
+                (0b11000, found) => assert!(matches!(found, Ok(Setting::Kept { .. }))),
+                (_, found) => assert_eq!(
+                    found.expect_err("neither, or parts").to_string(),
                     "settings: name either --plan, --mask and --start, or --settings and --block"
+                ),
+            }
+        }
+    }
+
+    #[test]
+    fn slots_lie_alone_or_in_frames() {
+        for (choice, line) in choices(&["--modulation 3", "--rate 6", "--plan p", "--group 1"]) {
+            let words = match job(&[&["points --in-phase i --quadrature q"], &line[..]].concat()) {
+                Job::Points(words) => words,
+                _ => unreachable!("the job is points"),
+            };
+            match (choice, words.slots()) {
+                (0b0011, found) => assert!(matches!(found, Ok(Slots::Alone { .. }))),
+                (0b0100, found) => assert!(matches!(found, Ok(Slots::InFrames { group: None, .. }))),
+                (0b1100, found) => assert!(matches!(found, Ok(Slots::InFrames { group: Some(_), .. }))),
+                (_, found) => assert_eq!(
+                    found.expect_err("neither, or parts").to_string(),
+                    "slots: name either --modulation and --rate, or --plan and, of several groups, --group"
                 ),
             }
         }
