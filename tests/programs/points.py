@@ -159,6 +159,20 @@ def pipes():
     equal("code into points", (both.returncode, both.stdout), (0, wanted))
 
 
+def at_once():
+    """The points of a slot are there before the next slot is."""
+    slot = random.Random(10).randbytes(SLOT)
+    lists = random_lists(random.Random(10), 5)
+    put_lists(lists)
+    with subprocess.Popen([COMMAND, *alone(5, 7)], stdin=subprocess.PIPE, stdout=subprocess.PIPE, stderr=subprocess.PIPE) as making:
+        for _ in range(2):
+            making.stdin.write(slot)
+            making.stdin.flush()
+            equal("points at once", making.stdout.read(8 * 8976), points(5, 7, slot, lists))
+        making.stdin.close()
+        equal("nothing behind them", (making.stdout.read(), making.stderr.read()), (b"", b"slots 2 points 17952\n"))
+
+
 def cut():
     """What comes before a slot or a frame that is cut is kept."""
     octets = random.Random(5).randbytes(2 * FRAME)
@@ -395,6 +409,7 @@ def test():
     in_frames(FEW, frames_of(FEW, samples(300)), False)
     in_frames(WORKED, frames_of(WORKED, samples(100)), True)
     pipes()
+    at_once()
     cut()
     texts()
     wrong_lengths()

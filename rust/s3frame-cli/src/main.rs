@@ -2,6 +2,7 @@
 mod account;
 mod begins;
 mod card;
+mod chosen;
 mod code;
 mod compare;
 mod coordinates;
