@@ -1,4 +1,4 @@
-//! Pictures as SVG: a plan's slots, and what became of the slots of frames.
+//! Pictures as SVG: a plan's slots, what became of the slots of frames, and what all pictures share.
 //!
 //! The colours differ in lightness and stay apart for colour-blind readers; dummies of a plan are hollow besides.
 use crate::plan::Run;
