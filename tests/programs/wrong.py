@@ -7,8 +7,11 @@ import signal
 import stat
 import subprocess
 
-from common import (COMMAND, MASK, PACKET, SETTINGS, START, WORKED, check, equal, frames_of, got, limit, put, refused, run,
+from common import (COMMAND, MASK, PACKET, SETTINGS, SLOT, START, WORKED, check, equal, frames_of, got, limit, put, refused, run,
                     samples, under, well)
+
+POINTS = ["points", "--in-phase", "i", "--quadrature", "q"]
+ALONE = [*POINTS, "--modulation", "2", "--rate", "3"]
 
 
 def settings(job, given):
@@ -44,6 +47,31 @@ def words_and_files(job, given):
     refused("missing headers", [*good, "-o", "out", "--headers", "none/headers"], f"^s3frame {job}: none/headers: No such file")
 
 
+def of_points():
+    """Wrong words and missing files of points; what their files hold is tested elsewhere."""
+    alone, framed = ["--modulation", "2", "--rate", "3"], ["--plan", "plan", "--group", "2"]
+    for words in ([], alone[:2], alone[2:], framed[2:], alone + framed, alone + framed[:2], alone + framed[2:], alone[:2] + framed,
+                  alone[2:] + framed[:2]):
+        refused(f"points with {words}", [*POINTS, *words, "slots", "-o", "out"],
+                "^s3frame points: slots: name either --modulation and --rate, or --plan and, of several groups, --group$")
+    for option in ("--modulation", "--rate", "--group", "--symbol"):
+        for word in ("two", "1.5", "4294967296"):
+            refused(f"{option} {word}", [*POINTS, option, word, "slots", "-o", "out"], "^s3frame: .*no number of at most 32 bits")
+    refused("no coordinates", ["points", *alone, "slots", "-o", "out"], "^s3frame: (.|\n)*--in-phase <FILE>\n *--quadrature <FILE>")
+    refused("quadrature alone", ["points", *POINTS[3:], *alone, "slots", "-o", "out"], "^s3frame: (.|\n)*--in-phase <FILE>")
+    for what, words, name, line in [
+        ("a missing input", [*ALONE, "missing", "-o", "out"], "missing", "No such file"),
+        ("a missing plan", [*POINTS, "--plan", "missing", "frames", "-o", "out"], "missing", "No such file"),
+        ("missing coordinates", ["points", *alone, "--in-phase", "i", "--quadrature", "missing", "slots", "-o", "out"], "missing",
+         "No such file"),
+        ("coordinates that are a folder", ["points", *alone, "--in-phase", ".", "--quadrature", "q", "slots", "-o", "out"], r"\.",
+         "Is a directory"),
+        ("a folder that is missing", [*ALONE, "slots", "-o", "none/out"], "none/out", "No such file"),
+        ("a picture in no folder", [*ALONE, "slots", "-o", "out", "--svg", "none/svg"], "none/svg", "No such file"),
+    ]:
+        refused(f"points: {what}", words, f"^s3frame points: {name}: {line}")
+
+
 def over_files():
     """No output may be an input, by whatever name, or another output."""
     os.symlink("packets", "link")
@@ -60,6 +88,11 @@ def over_files():
         ("packets over their frames", [*monitor, "frames"], "frames", "frames"),
         ("two outputs that are there", [*monitor, "out", "--json", "./out"], "./out", "out"),
         ("two outputs that are not there", [*monitor, "new", "--svg", "./new"], "./new", "new"),
+        ("points over their slots", [*ALONE, "slots", "-o", "slots"], "slots", "slots"),
+        ("points over coordinates", [*ALONE, "slots", "-o", "./i"], "./i", "i"),
+        ("points over the plan", [*POINTS, "--plan", "plan", "--group", "2", "frames", "-o", "plan"], "plan", "plan"),
+        ("a picture over coordinates", [*ALONE, "slots", "-o", "out", "--svg", "q"], "q", "q"),
+        ("a picture over points", [*ALONE, "slots", "-o", "out", "--svg", "./out"], "./out", "out"),
     ]:
         refused(what, words, f"^s3frame {words[0]}: {name}: is the same file as {other}, and would be written over it$")
     os.remove("link")
@@ -70,7 +103,10 @@ def over_streams():
     """The same for standard input and standard output, each of which is taken once."""
     refused("two outputs on standard output", ["monitor", *SETTINGS, "frames", "--json", "-"],
             "^s3frame monitor: standard output: cannot take two outputs")
-    refused("standard input twice", ["compare", "-", "-"], "^s3frame compare: standard input: cannot be read twice")
+    refused("points and a picture on standard output", [*ALONE, "slots", "--svg", "-"],
+            "^s3frame points: standard output: cannot take two outputs")
+    for words in (["compare", "-", "-"], ["points", *ALONE[3:], "--in-phase", "-", "-o", "out"]):
+        refused("standard input twice", words, f"^s3frame {words[0]}: standard input: cannot be read twice")
     packets = got("packets")
     for name, words in (("standard output", []), ("packets", ["-o", "packets"])):
         with open("packets", "rb") as given, open("packets", "ab") as out:
@@ -82,7 +118,7 @@ def over_streams():
 
 def full_devices():
     """A device that takes nothing: status 2, for what is written and for the report."""
-    for words in (["code", *SETTINGS, "packets", "-o", "/dev/full"],
+    for words in (["code", *SETTINGS, "packets", "-o", "/dev/full"], [*ALONE, "slots", "-o", "/dev/full"],
                   ["monitor", *SETTINGS, "frames", "-o", "out", "--json", "/dev/full"]):
         status, _, told = run(*words)
         check(f"a full device: {told}", status == 2 and f"s3frame {words[0]}: /dev/full: No space left" in told)
@@ -108,14 +144,14 @@ def names_and_permissions():
 def terminals():
     """Octets do not go to a terminal, or come from one."""
     ours, theirs = pty.openpty()
-    for job, given in (("code", "packets"), ("monitor", "frames")):
+    for job, given in ((["code", *SETTINGS], "packets"), (["monitor", *SETTINGS], "frames"), (ALONE, "slots")):
         for words, streams, line in [
             ([given], {"stdout": theirs}, "standard output: is a terminal: name a file with -o"),
             ([], {"stdin": theirs, "stdout": subprocess.PIPE}, "standard input: is a terminal: name a file"),
         ]:
-            result = subprocess.run([COMMAND, job, *SETTINGS, *words], stderr=subprocess.PIPE, text=True, timeout=60, **streams)
-            check(f"{job} at a terminal: {result.stderr}",
-                  result.returncode == 2 and result.stderr.startswith(f"s3frame {job}: {line}"))
+            result = subprocess.run([COMMAND, *job, *words], stderr=subprocess.PIPE, text=True, timeout=60, **streams)
+            check(f"{job[0]} at a terminal: {result.stderr}",
+                  result.returncode == 2 and result.stderr.startswith(f"s3frame {job[0]}: {line}"))
     os.close(theirs)
     os.close(ours)
 
@@ -174,8 +210,8 @@ def closed_pipe():
 def help_pages():
     version = well("the version", "--version")
     check(f"the version: {version}", re.fullmatch(r"s3frame \d+\.\d+\.\d+\n", version))
-    for words in ([], ["plan"], ["code"], ["monitor"], ["compare"], ["settings"], ["settings", "list"],
-                  ["settings", "show"], ["settings", "set"]):
+    for words in ([], ["plan"], ["code"], ["monitor"], ["compare"], ["points"], ["settings"],
+                  ["settings", "list"], ["settings", "show"], ["settings", "set"]):
         page = well(f"help of {words}", *words, "--help")
         check(f"help of {words}: use, status and an example",
               all(part in page for part in ("Usage: s3frame", "EXIT STATUS", "EXAMPLE")))
@@ -186,9 +222,13 @@ def test():
     packets = samples(40)
     put("frames", frames_of(WORKED, packets))
     put("packets", packets)
+    put("slots", got("frames")[-5 * SLOT:-3 * SLOT])
+    for name in "iq":
+        put(name, "1\n-1\n" * 2)
     for job, given in (("code", "packets"), ("monitor", "frames")):
         settings(job, given)
         words_and_files(job, given)
+    of_points()
     over_files()
     over_streams()
     full_devices()

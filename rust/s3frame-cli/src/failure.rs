@@ -28,7 +28,7 @@ impl Failure {
         Failure::refused(about, refusal, why)
     }
 
-    /// A stream without a single packet or frame, of so many octets.
+    /// A stream without a single packet, slot or frame, of so many octets.
     pub fn without(name: &str, unit: &str, octets: usize) -> Failure {
         match octets {
             0 => Failure::new(name, format!("has no {unit}s")),

@@ -2,8 +2,9 @@
 use crate::card::Card;
 use crate::failure::Failure;
 use crate::files::{Content, Files};
+use crate::number::Number;
 use crate::plan_text::{lines_at_fault, octets_of, MOST_OCTETS};
-use crate::words::{Number, Setting, SettingWords};
+use crate::words::{Setting, SettingWords};
 use s3frame::{FrameState, Place, Plan, Rate, Refusal, Settings, SlotSettings, SLOTS};
 use std::path::Path;
 

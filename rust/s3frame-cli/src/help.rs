@@ -2,9 +2,10 @@
 pub const STATUS: &str = "\
 EXIT STATUS
   0  all is well
-  1  slots or listed blocks are refused, lists differ, or an input ends inside a packet or a frame
-  2  wrong use, a file that cannot be read, written or used, a refused plan or setting;
-     no file is made or replaced
+  1  slots or listed blocks are refused, lists differ, or an input ends inside a packet, a slot
+     or a frame
+  2  wrong use, a file that cannot be read, written or used, a refused plan, setting or
+     coordinate; no file is made or replaced
 
 A run that is interrupted (SIGHUP, SIGINT, SIGTERM) ends by the signal, and makes or replaces
 no file.";
@@ -67,8 +68,10 @@ pub const FRAME_FORM: &str = "\
 FILES
   Packets are TS packets of 188 octets, end to end, each beginning 0x47, or with --tlv TLV
   packets. A frame has 673,200 octets: 120 slots of 5,610. Headers are 22 octets for each data
-  slot, in the order of the slots. The parity tables are the published ones.
+  slot, in the order of the slots. The parity tables are the published ones.";
 
+/// The end of a section on files.
+pub const FILE_NAMES: &str = "  \
   `-`, or no name, is standard input or output. A file that is made gets its name once it is
   whole; until then an earlier file of that name stays. No output may be an input, or another
   output. The report goes to standard output or, where an output stands there, to standard
@@ -94,10 +97,37 @@ JSON
   stuff bits than ones, each as `stuff`, their number, and `slots`, the accepted slots that have
   them. `total` has the numbers of all frames, `left_over` the octets behind the last whole one.";
 
+pub const POINT_FORM: &str = "\
+FILES
+  A slot has 5,610 octets; slots lie end to end. A frame has 673,200 octets: 120 slots, as
+  `s3frame code` writes them. Points are I and Q of each symbol in turn, as 32-bit floats with the
+  low octet first: what GNU Radio's file source reads as complex.";
+
+pub const COORDINATE_FORM: &str = "\
+COORDINATES
+  Two texts, one of in-phase and one of quadrature coordinates: one number a line, label 0 first,
+  as many as the modulation has labels, which are 2, 4, 8, 16 or 32. A label is the bits of a
+  symbol as a number, the bit that is read first the highest. Empty lines and lines that begin
+  with # do not count, nor do blanks around a number. A number is decimal, as 0.7071 or -7.1e-1,
+  or one of inf, -inf and nan; the 32-bit float nearest to it is taken. A text has 65,536 octets
+  at most.
+
+  Points are made of these floats and their negatives, right to the last bit. Which points a
+  modulation has is the caller's to know: none are built in.
+
+   4 length      another number of coordinates than of labels; with π/2-shift BPSK also symbol 0
+  18 coordinate  a coordinate that is used is infinite or not a number; one that is not used
+                 may be";
+
 pub const MASK: &str =
     "The taps of the slots' 25-bit dispersal register: a number with the weight 2^24, in decimal or behind 0x";
 pub const START: &str =
     "Where the slots' register starts in each frame: a number from 1 to 2^25 - 1, in decimal or behind 0x";
+
+/// The two ways to name the slots whose points are made.
+pub const POINT_USAGE: &str = "\
+s3frame points [OPTIONS] --modulation <M> --rate <R> --in-phase <FILE> --quadrature <FILE> [INPUT]
+       s3frame points [OPTIONS] --plan <PLAN> [--group <N>] --in-phase <FILE> --quadrature <FILE> [INPUT]";
 
 /// The two ways to name the setting of a job on frames.
 pub fn usage(job: &str) -> String {

@@ -2,8 +2,10 @@
 mod account;
 mod begins;
 mod card;
+mod chosen;
 mod code;
 mod compare;
+mod coordinates;
 mod failure;
 mod files;
 mod frames;
@@ -13,14 +15,19 @@ mod inputs;
 mod interrupt;
 mod json;
 mod monitor;
+mod number;
 mod outputs;
 mod packets;
 mod picture;
 mod plan;
 mod plan_text;
+mod plane;
+mod points;
 mod progress;
 mod report;
 mod rows;
+mod runs;
+mod sent;
 mod settings;
 mod stuff;
 mod tally;
@@ -59,6 +66,7 @@ fn run(job: &Job) -> Result<Outcome, Failure> {
         Job::Code(words) => code::run(words),
         Job::Monitor(words) => monitor::run(words),
         Job::Compare(words) => compare::run(words),
+        Job::Points(words) => points::run(words),
         Job::Settings(words) => settings::run(&words.job),
     }
 }

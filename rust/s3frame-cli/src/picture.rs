@@ -1,4 +1,4 @@
-//! Pictures as SVG: a plan's slots, and what became of the slots of frames.
+//! Pictures as SVG: a plan's slots, what became of the slots of frames, and what all pictures share.
 //!
 //! The colours differ in lightness and stay apart for colour-blind readers; dummies of a plan are hollow besides.
 use crate::plan::Run;
@@ -8,20 +8,20 @@ use plotters::coord::Shift;
 use plotters::prelude::*;
 use s3frame::SLOTS;
 
-type Area<'a> = DrawingArea<SVGBackend<'a>, Shift>;
-type Drawn = Result<(), DrawingAreaErrorKind<std::io::Error>>;
+pub type Area<'a> = DrawingArea<SVGBackend<'a>, Shift>;
+pub type Drawn = Result<(), DrawingAreaErrorKind<std::io::Error>>;
 
-const FONT: (&str, u32) = ("sans-serif", 15);
+pub const FONT: (&str, u32) = ("sans-serif", 15);
 const TITLE: (&str, u32) = ("sans-serif", 20);
 
 // All lengths are pixels: a slot's width, the room of the axes and of the edges.
 const SLOT_WIDTH: u32 = 8;
-const FRAME_AXIS: u32 = 90;
-const SLOT_AXIS: u32 = 50;
-const EDGE: u32 = 20;
-const WIDTH: u32 = FRAME_AXIS + SLOTS as u32 * SLOT_WIDTH + EDGE;
-/// The height of the title, and of the answers' legend below it.
-const LINE: u32 = 34;
+pub const LEFT_AXIS: u32 = 90;
+pub const LOWER_AXIS: u32 = 50;
+pub const EDGE: u32 = 20;
+pub const WIDTH: u32 = LEFT_AXIS + SLOTS as u32 * SLOT_WIDTH + EDGE;
+/// The height of the title, and of a legend in one line below it.
+pub const LINE: u32 = 34;
 /// The side of a coloured square in a legend, and how far apart such squares stand: answers side by side, groups in lines.
 const KEY: i32 = 14;
 const ANSWER_KEYS: i32 = 190;
@@ -59,33 +59,33 @@ const GROUPS: [RGBColor; 8] = [
 ];
 
 /// The text of a picture. Drawing into memory does not fail.
-fn svg(height: u32, draw: impl FnOnce(&Area) -> Drawn) -> String {
+pub fn svg(size: (u32, u32), draw: impl FnOnce(&Area) -> Drawn) -> String {
     let mut text = String::new();
-    let area = SVGBackend::with_string(&mut text, (WIDTH, height)).into_drawing_area();
+    let area = SVGBackend::with_string(&mut text, size).into_drawing_area();
     area.fill(&WHITE).and_then(|()| draw(&area)).and_then(|()| area.present()).expect("drawing into memory");
     drop(area);
     text
 }
 
 /// A square of a legend, and what it means.
-fn key(area: &Area, (x, y): (i32, i32), style: ShapeStyle, text: &str) -> Drawn {
+pub fn key(area: &Area, (x, y): (i32, i32), style: ShapeStyle, text: &str) -> Drawn {
     area.draw(&Rectangle::new([(x, y), (x + KEY, y + KEY)], style))?;
     area.draw(&Text::new(text.to_string(), (x + KEY + 6, y), FONT))
 }
 
-fn title(area: &Area, text: &str) -> Drawn {
-    area.draw(&Text::new(text.to_string(), (FRAME_AXIS as i32, 10), TITLE))
+pub fn title(area: &Area, text: &str) -> Drawn {
+    area.draw(&Text::new(text.to_string(), (LEFT_AXIS as i32, 10), TITLE))
 }
 
 /// The slots of frames, coloured by answer: slots to the right, frames downward.
 pub fn of_frames(rows: &Rows) -> String {
     let count = rows.iter().count() as u32;
     let height = count * (ROWS / count).clamp(LOWEST_ROW, HIGHEST_ROW);
-    svg(2 * LINE + height.max(LEAST_ROWS) + SLOT_AXIS + EDGE, |area| {
+    svg((WIDTH, 2 * LINE + height.max(LEAST_ROWS) + LOWER_AXIS + EDGE), |area| {
         let (head, body) = area.split_vertically(2 * LINE);
         title(&head, &heading(rows))?;
         for (place, (_, name, colour)) in (0..).zip(ANSWERS) {
-            key(&head, (FRAME_AXIS as i32 + ANSWER_KEYS * place, LINE as i32 + 6), colour.filled(), name)?;
+            key(&head, (LEFT_AXIS as i32 + ANSWER_KEYS * place, LINE as i32 + 6), colour.filled(), name)?;
         }
         chart_frames(&body, rows)
     })
@@ -103,8 +103,8 @@ fn chart_frames(area: &Area, rows: &Rows) -> Drawn {
     // Frames count downward, so they stand as numbers below 0.
     let place = |frame: u64, side: f64| -(frame as f64 + side);
     let mut chart = ChartBuilder::on(area)
-        .x_label_area_size(SLOT_AXIS)
-        .y_label_area_size(FRAME_AXIS - EDGE)
+        .x_label_area_size(LOWER_AXIS)
+        .y_label_area_size(LEFT_AXIS - EDGE)
         .margin_left(EDGE)
         .margin_right(EDGE)
         .margin_bottom(EDGE)
@@ -152,22 +152,22 @@ fn sides(first: usize, last: usize) -> (f64, f64) {
 pub fn of_plan(runs: &[Run]) -> String {
     let down = |group: usize| GROUP_KEYS * group as i32 + 8;
     let last = runs.iter().map(|run| run.place.group).max().unwrap_or(0);
-    svg(LINE + STRIP + SLOT_AXIS + down(last + 1) as u32 + EDGE, |area| {
+    svg((WIDTH, LINE + STRIP + LOWER_AXIS + down(last + 1) as u32 + EDGE), |area| {
         let (head, rest) = area.split_vertically(LINE);
-        let (body, legend) = rest.split_vertically(STRIP + SLOT_AXIS);
+        let (body, legend) = rest.split_vertically(STRIP + LOWER_AXIS);
         title(&head, "Slots of a frame, by the groups of the plan")?;
         chart_plan(&body, runs)?;
         runs.iter().try_for_each(|run| {
             let across = if run.place.data { 0 } else { WIDTH as i32 / 2 };
-            key(&legend, (FRAME_AXIS as i32 + across, down(run.place.group)), style(run), &meaning(run))
+            key(&legend, (LEFT_AXIS as i32 + across, down(run.place.group)), style(run), &meaning(run))
         })
     })
 }
 
 fn chart_plan(area: &Area, runs: &[Run]) -> Drawn {
     let mut chart = ChartBuilder::on(area)
-        .x_label_area_size(SLOT_AXIS)
-        .margin_left(FRAME_AXIS)
+        .x_label_area_size(LOWER_AXIS)
+        .margin_left(LEFT_AXIS)
         .margin_right(EDGE)
         .build_cartesian_2d(0.5..SLOTS as f64 + 0.5, 0.0..1.0)?;
     let mut mesh = chart.configure_mesh();

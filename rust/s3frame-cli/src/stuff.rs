@@ -1,4 +1,5 @@
 //! Accepted slots whose six stuff bits are not all ones, as generators of other makers send them.
+use crate::runs::runs;
 use serde::Serialize;
 use std::fmt::{self, Display};
 
@@ -18,18 +19,6 @@ impl StuffSlots {
         });
         list[place].slots.push(slot);
     }
-}
-
-/// First and last of each run of slots that follow each other.
-fn runs(slots: &[usize]) -> Vec<(usize, usize)> {
-    let mut runs: Vec<(usize, usize)> = Vec::new();
-    for slot in slots {
-        match runs.last_mut() {
-            Some((_, last)) if *last + 1 == *slot => *last = *slot,
-            _ => runs.push((*slot, *slot)),
-        }
-    }
-    runs
 }
 
 /// As `stuff 62 slots 5,7-9`.

@@ -1,20 +1,23 @@
 //! The words of the command line.
 use crate::failure::Failure;
-use crate::help::{page, usage, CARD_FORM, FRAME_FORM, JSON_FORM, MASK, PLAN_FORM, START, STATUS, TLV_FORM};
+use crate::help::{
+    page, usage, CARD_FORM, COORDINATE_FORM, FILE_NAMES, FRAME_FORM, JSON_FORM, MASK, PLAN_FORM, POINT_FORM,
+    POINT_USAGE, START, STATUS, TLV_FORM,
+};
+use crate::number::Number;
 use clap::{Args, Parser, Subcommand};
-use std::fmt::{self, Display};
 use std::path::{Path, PathBuf};
-use std::str::FromStr;
 
-/// Codes TS or TLV packets into ISDB-S3 frames, and reads frames back
+/// Codes TS or TLV packets into ISDB-S3 frames, makes their signal points, and reads frames back
 ///
 /// The work on slots is done by functions that are proved against the Ministry's technical conditions: BCH, dispersal, LDPC
-/// parity, and every check on the way back.
+/// parity, symbols and points, and every check on the way back.
 #[derive(Parser)]
 #[command(name = "s3frame", version, after_long_help = page(&[
     "EXAMPLE\n  printf '4 7 115\\n2 3 5\\n' >plan.txt\n  s3frame plan plan.txt\n  \
      s3frame code --plan plan.txt --mask 0x1234567 --start 1 sent.ts -o frames\n  \
-     s3frame monitor --plan plan.txt --mask 0x1234567 --start 1 frames -o back.ts\n  s3frame compare sent.ts back.ts\n\n  \
+     s3frame monitor --plan plan.txt --mask 0x1234567 --start 1 frames -o back.ts\n  s3frame compare sent.ts back.ts\n  \
+     s3frame points --plan plan.txt --group 2 --in-phase i.txt --quadrature q.txt frames -o points.cf32\n\n  \
      truncate -s 32768 card\n  s3frame settings set card 0 --plan plan.txt --mask 0x1234567 --start 1 \\\n      \
      --tmcc-mask 0x4001 --tmcc-start 1\n  s3frame code --settings card --block 0 sent.ts -o frames",
     STATUS,
@@ -30,6 +33,7 @@ pub enum Job {
     Code(CodeWords),
     Monitor(MonitorWords),
     Compare(CompareWords),
+    Points(PointWords),
     Settings(CardWords),
 }
 
@@ -41,6 +45,7 @@ impl Job {
             Job::Code(_) => "code",
             Job::Monitor(_) => "monitor",
             Job::Compare(_) => "compare",
+            Job::Points(_) => "points",
             Job::Settings(words) => words.job.name(),
         }
     }
@@ -106,7 +111,7 @@ impl SettingWords {
 /// A packet that does not begin 0x47, or a TLV packet of another form, is refused. Where the packets end inside one, what
 /// came before it is coded.
 #[derive(Args)]
-#[command(override_usage = usage("code"), after_long_help = page(&[PLAN_FORM, FRAME_FORM, TLV_FORM, STATUS,
+#[command(override_usage = usage("code"), after_long_help = page(&[PLAN_FORM, FRAME_FORM, FILE_NAMES, TLV_FORM, STATUS,
     "EXAMPLE\n  s3frame code --plan plan.txt --mask 0x1234567 --start 1 sent.ts -o frames\n  \
      s3frame code --tlv --plan one-group.txt --mask 0x1234567 --start 1 sent.tlv -o frames\n  \
      s3frame code --settings card --block 0 sent.ts -o frames"]))]
@@ -146,7 +151,7 @@ pub struct CodeWords {
 ///
 /// Where the frames end inside one, those before it are read.
 #[derive(Args)]
-#[command(override_usage = usage("monitor"), after_long_help = page(&[PLAN_FORM, FRAME_FORM, TLV_FORM, JSON_FORM, STATUS,
+#[command(override_usage = usage("monitor"), after_long_help = page(&[PLAN_FORM, FRAME_FORM, FILE_NAMES, TLV_FORM, JSON_FORM, STATUS,
     "EXAMPLE\n  s3frame monitor --plan plan.txt --mask 0x1234567 --start 1 frames -o back.ts --svg slots.svg\n  \
      s3frame monitor --tlv --plan one-group.txt --mask 0x1234567 --start 1 frames -o back.tlv\n  \
      s3frame monitor --settings card --block 0 frames -o back.ts"]))]
@@ -189,6 +194,78 @@ pub struct CompareWords {
     pub sent: PathBuf,
     /// The packets that came back; - is standard input
     pub received: PathBuf,
+}
+
+/// Makes the signal points of coded slots, for a modulator
+///
+/// Writes in-phase and quadrature coordinate of each symbol, by the points that two texts give for the labels. Points belong
+/// to one modulation: the slots lie end to end, all of one modulation and rate, or in frames, of which the data slots of one
+/// group are used; slots of other groups and dummies are left out. With π/2-shift BPSK the points of even symbols are turned
+/// by 90 degrees anticlockwise, which makes (I, Q) into (-Q, I).
+///
+/// The last line says how many slots and points there were, and before these how many frames, where the slots lie in frames.
+///
+/// Where the input ends inside a slot or a frame, the points of those before it are made.
+#[derive(Args)]
+#[command(override_usage = POINT_USAGE, after_long_help = page(&[POINT_FORM, FILE_NAMES, COORDINATE_FORM, PLAN_FORM,
+    STATUS,
+    "EXAMPLE\n  printf '3 6 120\\n' >one-group.txt\n  \
+     s3frame code --plan one-group.txt --mask 0x1234567 --start 1 sent.ts -o frames\n  \
+     s3frame points --plan one-group.txt --in-phase examples/points/8psk-in-phase.txt \\\n      \
+     --quadrature examples/points/8psk-quadrature.txt frames -o points.cf32 --svg points.svg"]))]
+pub struct PointWords {
+    /// The modulation of slots that lie end to end, a number as in a plan
+    #[arg(long, value_name = "M")]
+    modulation: Option<Number>,
+    /// The rate of slots that lie end to end, a number as in a plan
+    #[arg(long, value_name = "R")]
+    rate: Option<Number>,
+    /// The plan's file, where the slots lie in frames
+    #[arg(long)]
+    plan: Option<PathBuf>,
+    /// Which group of the plan, from 1, where it has several
+    #[arg(long, value_name = "N")]
+    group: Option<Number>,
+    /// The in-phase coordinates of the labels; - is standard input
+    #[arg(long, value_name = "FILE")]
+    pub in_phase: PathBuf,
+    /// The quadrature coordinates of the labels; - is standard input
+    #[arg(long, value_name = "FILE")]
+    pub quadrature: PathBuf,
+    /// The number in the frame, from 1, of the first symbol; it counts for π/2-shift BPSK alone. All slots begin alike, since
+    /// each has an even number of such symbols
+    #[arg(long, value_name = "N", default_value = "1")]
+    pub symbol: Number,
+    /// The slots or frames; standard input without it
+    pub input: Option<PathBuf>,
+    /// The points; standard output without it
+    #[arg(short, long)]
+    pub output: Option<PathBuf>,
+    /// Draws the points that were sent into this file, each with its labels and how many symbols had it
+    #[arg(long, value_name = "FILE")]
+    pub svg: Option<PathBuf>,
+}
+
+/// Where the slots lie whose points are made.
+#[derive(Debug)]
+pub enum Slots<'a> {
+    Alone { modulation: &'a Number, rate: &'a Number },
+    InFrames { plan: &'a Path, group: Option<&'a Number> },
+}
+
+impl PointWords {
+    /// Where the slots lie; words for both, or for a part of one, are wrong use.
+    pub fn slots(&self) -> Result<Slots<'_>, Failure> {
+        let PointWords { modulation, rate, plan, group, .. } = self;
+        match (modulation, rate, plan, group) {
+            (Some(modulation), Some(rate), None, None) => Ok(Slots::Alone { modulation, rate }),
+            (None, None, Some(plan), group) => Ok(Slots::InFrames { plan, group: group.as_ref() }),
+            _ => Err(Failure::new(
+                "slots",
+                "name either --modulation and --rate, or --plan and, of several groups, --group",
+            )),
+        }
+    }
 }
 
 /// Lists, shows and replaces the settings that a card keeps in blocks
@@ -279,61 +356,55 @@ pub struct SetWords {
     pub tmcc_start: Number,
 }
 
-/// A number of at most 32 bits, with the word that said it.
-#[derive(Clone, Debug)]
-pub struct Number {
-    word: String,
-    pub value: u32,
-}
-
-impl FromStr for Number {
-    type Err = &'static str;
-
-    fn from_str(word: &str) -> Result<Number, &'static str> {
-        let (digits, base) = word.strip_prefix("0x").map_or((word, 10), |digits| (digits, 16));
-        // Without this a plus sign would pass.
-        let all_digits = digits.chars().all(|digit| digit.is_digit(base));
-        let value = u32::from_str_radix(digits, base).ok().filter(|_| all_digits);
-        let value = value.ok_or("no number of at most 32 bits, in decimal or behind 0x")?;
-        Ok(Number { word: word.to_string(), value })
-    }
-}
-
-impl Display for Number {
-    fn fmt(&self, to: &mut fmt::Formatter) -> fmt::Result {
-        to.write_str(&self.word)
-    }
-}
-
 #[cfg(test)]
 mod tests {
     use super::*;
     use clap::error::ErrorKind;
 
-    /// What the words of a setting name, by the command line.
-    fn setting(line: &str) -> Result<String, String> {
-        let words = line.split(' ').filter(|word| !word.is_empty());
-        let words =
-            Words::try_parse_from(["s3frame", "code"].into_iter().chain(words)).map_err(|error| error.to_string())?;
-        match words.job {
-            Job::Code(words) => words.settings.setting().map(|of| format!("{of:?}")).map_err(|wrong| wrong.to_string()),
-            _ => unreachable!("the job is code"),
-        }
+    /// The job of a command line.
+    fn job(line: &[&str]) -> Job {
+        let words = ["s3frame"].iter().chain(line).flat_map(|words| words.split(' '));
+        Words::try_parse_from(words).expect("words that are known").job
+    }
+
+    /// Every choice of some words, as a number with a bit for each word, the first the lowest.
+    fn choices<'a>(words: &'a [&'a str]) -> impl Iterator<Item = (usize, Vec<&'a str>)> {
+        let chosen = |choice: usize| (0..words.len()).filter(move |word| choice >> word & 1 == 1);
+        (0..1 << words.len()).map(move |choice| (choice, chosen(choice).map(|word| words[word]).collect()))
     }
 
     #[test]
     fn a_setting_is_said_or_kept() {
-        let words = ["--plan p", "--mask 1", "--start 2", "--settings c", "--block 3"];
-        for named in 0..1 << words.len() {
-            let line: Vec<&str> =
-                (0..words.len()).filter(|word| named >> word & 1 == 1).map(|word| words[word]).collect();
-            let found = setting(&line.join(" "));
-            match named {
-                0b00111 => assert!(found.expect("a plan and a register").starts_with("Said")),
-                0b11000 => assert!(found.expect("a card and a block").starts_with("Kept")),
-                _ => assert_eq!(
-                    found.expect_err("neither, or parts"),
+        for (choice, line) in choices(&["--plan p", "--mask 1", "--start 2", "--settings c", "--block 3"]) {
+            let words = match job(&[&["code"], &line[..]].concat()) {
+                Job::Code(words) => words.settings,
+                _ => unreachable!("the job is code"),
+            };
+            match (choice, words.setting()) {
+                (0b00111, found) => assert!(matches!(found, Ok(Setting::Said { .. }))),
+                (0b11000, found) => assert!(matches!(found, Ok(Setting::Kept { .. }))),
+                (_, found) => assert_eq!(
+                    found.expect_err("neither, or parts").to_string(),
                     "settings: name either --plan, --mask and --start, or --settings and --block"
+                ),
+            }
+        }
+    }
+
+    #[test]
+    fn slots_lie_alone_or_in_frames() {
+        for (choice, line) in choices(&["--modulation 3", "--rate 6", "--plan p", "--group 1"]) {
+            let words = match job(&[&["points --in-phase i --quadrature q"], &line[..]].concat()) {
+                Job::Points(words) => words,
+                _ => unreachable!("the job is points"),
+            };
+            match (choice, words.slots()) {
+                (0b0011, found) => assert!(matches!(found, Ok(Slots::Alone { .. }))),
+                (0b0100, found) => assert!(matches!(found, Ok(Slots::InFrames { group: None, .. }))),
+                (0b1100, found) => assert!(matches!(found, Ok(Slots::InFrames { group: Some(_), .. }))),
+                (_, found) => assert_eq!(
+                    found.expect_err("neither, or parts").to_string(),
+                    "slots: name either --modulation and --rate, or --plan and, of several groups, --group"
                 ),
             }
         }
@@ -351,16 +422,6 @@ mod tests {
         for left_out in 0..words.len() {
             let error = parsed(left_out).err().expect("a word is missing");
             assert_eq!(error.kind(), ErrorKind::MissingRequiredArgument);
-        }
-    }
-
-    #[test]
-    fn numbers_in_decimal_or_behind_0x() {
-        let value = |word: &str| word.parse::<Number>().ok().map(|number| number.value);
-        assert_eq!(["0", "19088743", "0x1234567", "0xaBc"].map(value), [0, 0x1234567, 0x1234567, 0xABC].map(Some));
-        assert_eq!(["4294967295", "0xFFFFFFFF"].map(value), [Some(u32::MAX); 2]);
-        for word in ["", "0x", "12a", "0x1g", "+1", "-1", "0x+1", " 1", "1 ", "0X1", "4294967296", "0x100000000"] {
-            assert_eq!(value(word), None, "{word:?}");
         }
     }
 }
