@@ -113,8 +113,9 @@ COORDINATES
   at most.
 
   Points are made of these floats and their negatives, right to the last bit. Which points a
-  modulation has is the caller's to know: none are built in.
+  modulation has is the caller's to know: none are built in. Refused:
 
+   1 plan        an unknown modulation or rate
    4 length      another number of coordinates than of labels; with π/2-shift BPSK also symbol 0
   18 coordinate  a coordinate that is used is infinite or not a number; one that is not used
                  may be";

@@ -205,13 +205,13 @@ mod tests {
     fn the_unit_of_the_axes() {
         let found = |size: f32| {
             let scale = Scale::of(&[dot(0.0, -size, &[0]), dot(size / 2.0, 0.0, &[1])]);
-            (scale.name("I"), scale.reach as f32)
+            (scale.name("I"), (scale.reach as f32).to_bits())
         };
-        let plain = |reach| ("I".to_string(), reach);
+        let plain = |reach: f32| ("I".to_string(), reach.to_bits());
         assert_eq!([found(1.0), found(2e-3), found(9999.0)], [plain(1.15), plain(2.3e-3), plain(11498.85)]);
         assert_eq!(found(0.0), plain(1.15));
-        assert_eq!(found(1e30), ("I, in units of 1e30".to_string(), 1.15));
-        assert_eq!(found(2e-30), ("I, in units of 1e-30".to_string(), 2.3));
+        assert_eq!(found(1e30), ("I, in units of 1e30".to_string(), 1.15f32.to_bits()));
+        assert_eq!(found(2e-30), ("I, in units of 1e-30".to_string(), 2.3f32.to_bits()));
         assert_eq!(found(f32::MAX).0, "I, in units of 1e38");
         assert_eq!(found(1e-45).0, "I, in units of 1e-45");
     }

@@ -13,7 +13,6 @@ pub struct Sent {
 
 /// A point that was sent, the labels that have it, and how many symbols had it. The points of even symbols of π/2-shift BPSK
 /// are told apart from those of odd ones, also where they agree.
-#[derive(Clone, Debug, PartialEq)]
 pub struct Dot {
     pub point: Point,
     pub turned: bool,
@@ -32,7 +31,7 @@ impl Sent {
         }
     }
 
-    /// The points that were sent, each once.
+    /// The points that were sent, each once; zeros of both signs are one place.
     pub fn dots(&self, constellation: Constellation) -> Vec<Dot> {
         let mut dots: Vec<Dot> = Vec::new();
         // Symbol 2 is as any that is turned, symbol 1 as any other.
@@ -56,17 +55,21 @@ impl Sent {
 mod tests {
     use super::*;
 
-    fn dot(i: f32, q: f32, turned: bool, labels: &[usize], symbols: u64) -> Dot {
-        Dot { point: Point { i, q }, turned, labels: labels.to_vec(), symbols }
+    /// A dot with the bits of its coordinates.
+    type Bits = ([u32; 2], bool, Vec<usize>, u64);
+
+    fn dot(i: f32, q: f32, turned: bool, labels: &[usize], symbols: u64) -> Bits {
+        ([i.to_bits(), q.to_bits()], turned, labels.to_vec(), symbols)
     }
 
-    fn dots(modulation: Modulation, symbol: u32, labels: &[u8], in_phase: &[f32], quadrature: &[f32]) -> Vec<Dot> {
+    fn dots(modulation: Modulation, symbol: u32, labels: &[u8], in_phase: &[f32], quadrature: &[f32]) -> Vec<Bits> {
         let mut sent = Sent::default();
         // In two parts, the first of which is even, as the parts of a stream are.
         let (first, rest) = labels.split_at(2);
         sent.add(modulation, symbol, first);
         sent.add(modulation, symbol, rest);
-        sent.dots(Constellation { modulation, in_phase, quadrature })
+        let dots = sent.dots(Constellation { modulation, in_phase, quadrature });
+        dots.iter().map(|of| dot(of.point.i, of.point.q, of.turned, &of.labels, of.symbols)).collect()
     }
 
     #[test]
@@ -94,6 +97,6 @@ mod tests {
         ];
         assert_eq!(of(2), first_is_even);
         let at_one_place = dots(Modulation::Bpsk, 1, &[0, 0, 1, 1], &[0.0; 2], &[0.0; 2]);
-        assert_eq!(at_one_place, [dot(0.0, 0.0, false, &[0, 1], 2), dot(0.0, 0.0, true, &[0, 1], 2)]);
+        assert_eq!(at_one_place, [dot(0.0, 0.0, false, &[0, 1], 2), dot(-0.0, 0.0, true, &[0, 1], 2)]);
     }
 }
