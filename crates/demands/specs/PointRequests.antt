@@ -11,7 +11,8 @@ use lib.ListN.{length, getD}
 use Rattle.lists.specs.Count.{every}
 use Rattle.refusal.specs.Numbers.{PLAN, LENGTH, REGISTER, LABEL, COORDINATE}
 use Rattle.dispersal.specs.Register.{step, top, settingsOk}
-use Rattle.plan.specs.Rates.{modulationOk}
+use Rattle.plan.specs.Rates.{modulationOk, symbolsOf}
+use Rattle.symbols.specs.Labels.{blockLabels, labelsOfSlot, labelsOfBlock, labelNumber}
 use Rattle.points.specs.declared.Point.{Point}
 use Rattle.points.specs.declared.PointAnswer.{PointAnswer}
 use Rattle.points.specs.declared.PointAnswer.the-variants.{At, Refused}
@@ -131,6 +132,14 @@ pub record OneByOne (m symbol : ℕ) (labels : List ℕ) (ins quads : List Float
   pub each : (i q : ℕ) → pointsNumber m symbol labels ins quads i q ≡ 0 → (r : ℕ) → r < length labels → pointNumber m (getD labels r 0) (symbol + r) ins quads ≡ 0
   pub all : 0 < length labels → ((r : ℕ) → r < length labels → pointNumber m (getD labels r 0) (symbol + r) ins quads ≡ 0)
       → pointsNumber m symbol labels ins quads (length labels) (length labels) ≡ 0
+
+-- "The modulator wants points, not labels": the labels that the symbol calls make of slots and of TMCC blocks are runs, as many
+-- as there are symbols, and none of them is refused as 12
+pub record LabelsTaken : Type 0 where
+  pub slot-many : (m rate : ℕ) (slot : List ℕ) → length (labelsOfSlot m rate slot) ≡ symbolsOf m
+  pub slot-taken : (m rate : ℕ) (slot : List ℕ) → labelNumber m (labelsOfSlot m rate slot) ≡ 0
+  pub block-many : (block : List ℕ) → length (labelsOfBlock block) ≡ blockLabels
+  pub block-taken : (block : List ℕ) → labelNumber bpsk (labelsOfBlock block) ≡ 0
 
 abbrev pub RunOneByOne : Type 0
 RunOneByOne = (m symbol : ℕ) (labels : List ℕ) (ins quads : List Float) → OneByOne m symbol labels ins quads

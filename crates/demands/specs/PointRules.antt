@@ -20,8 +20,11 @@ use Rattle.lists.specs.CountLaws.{every-at, every-all}
 use Rattle.refusal.specs.Numbers.{PLAN, LENGTH, REGISTER, LABEL, COORDINATE}
 use Rattle.dispersal.specs.Register.{top, maskOk, settingsOk}
 use Rattle.dispersal.specs.RegisterLaws.{after-none, after-more, after-ok}
-use Rattle.plan.specs.Rates.{modulationOk}
-use Rattle.symbols.specs.Labels.{labelNumber}
+use Rattle.plan.specs.Rates.{modulationOk, symbolsOf}
+use Rattle.symbols.specs.Index.{rightToLeft}
+use Rattle.symbols.specs.Labels.{blockLabels, labelNumber, labelsOfOctets}
+use Rattle.symbols.specs.LabelLaws.{length-octet-labels, octet-labels-below}
+use Rattle.symbols.specs.CallLaws.{labels-fit-yes}
 use Rattle.points.specs.declared.Point.{Point}
 use Rattle.points.specs.declared.PointAnswer.the-variants.{At, Refused}
 use Rattle.points.specs.Points.{quarterTurn, halfTurn, lentPoint, bpsk, shifted, pointOf, arrangedWidth, arrangedOf, usedOk}
@@ -29,7 +32,7 @@ use Rattle.points.specs.PointLaws.{length-in-phase, length-quadrature, in-phase
 use Rattle.points.specs.AnswerLaws.{point-answered, refusal-answered}
 use Rattle.points.specs.Numbers.{symbolOk, lentOk, lentNumber, mappedNumber, roomOk, usedNumber, pointNumber, pointsNumber, stepAnswer}
 use Rattle.points.specs.NumberLaws.{Lent, lent}
-use Rattle.demands.specs.PointRequests.{OneAnswer, SymbolsTurned, ArrangedTurned, ArrangedStepped, EntryOrNegation, CoordinatesLent, SignsTurned, CoordinatesExact, Finite, PointsFinite, TurnsBack, InOrder, PointsRefused, UnusedUnseen, RunOneByOne}
+use Rattle.demands.specs.PointRequests.{OneAnswer, SymbolsTurned, ArrangedTurned, ArrangedStepped, EntryOrNegation, CoordinatesLent, SignsTurned, CoordinatesExact, Finite, PointsFinite, TurnsBack, InOrder, PointsRefused, UnusedUnseen, LabelsTaken, RunOneByOne}
 
 pub one-answer : OneAnswer
 one-answer n p (At r) a =
@@ -276,4 +279,17 @@ run-one-by-one m symbol labels ins quads =
       q = quadrature-at m symbol labels ins quads;
       each = each-taken m symbol labels ins quads;
       all = all-taken m symbol labels ins quads;
+    }
+
+-- labels that are made of octets are never refused
+made-taken : (m s : ℕ) (leftward : Bool) (octets : List ℕ) → labelNumber m (labelsOfOctets m s leftward octets) ≡ 0
+made-taken m s leftward octets = labels-fit-yes m (labelsOfOctets m s leftward octets) (λ r l. octet-labels-below m s leftward octets r)
+
+pub labels-taken : LabelsTaken
+labels-taken =
+    record {
+      slot-many = λ m rate slot. length-octet-labels m (symbolsOf m) (rightToLeft m rate) slot;
+      slot-taken = λ m rate slot. made-taken m (symbolsOf m) (rightToLeft m rate) slot;
+      block-many = λ block. length-octet-labels 1 blockLabels false block;
+      block-taken = λ block. made-taken 1 blockLabels false block;
     }

@@ -77,6 +77,14 @@ pub fn title(area: &Area, text: &str) -> Drawn {
     area.draw(&Text::new(text.to_string(), (LEFT_AXIS as i32, 10), TITLE))
 }
 
+/// A chart with room for the numbers and names of both axes.
+pub fn with_axes<'a, 'b>(area: &'a Area<'b>) -> ChartBuilder<'a, 'static, SVGBackend<'b>> {
+    let mut chart = ChartBuilder::on(area);
+    chart.x_label_area_size(LOWER_AXIS).y_label_area_size(LEFT_AXIS - EDGE);
+    chart.margin_left(EDGE).margin_right(EDGE).margin_bottom(EDGE);
+    chart
+}
+
 /// The slots of frames, coloured by answer: slots to the right, frames downward.
 pub fn of_frames(rows: &Rows) -> String {
     let count = rows.iter().count() as u32;
@@ -102,13 +110,8 @@ fn heading(rows: &Rows) -> String {
 fn chart_frames(area: &Area, rows: &Rows) -> Drawn {
     // Frames count downward, so they stand as numbers below 0.
     let place = |frame: u64, side: f64| -(frame as f64 + side);
-    let mut chart = ChartBuilder::on(area)
-        .x_label_area_size(LOWER_AXIS)
-        .y_label_area_size(LEFT_AXIS - EDGE)
-        .margin_left(EDGE)
-        .margin_right(EDGE)
-        .margin_bottom(EDGE)
-        .build_cartesian_2d(0.5..SLOTS as f64 + 0.5, place(rows.frames(), 0.5)..place(1, -0.5))?;
+    let mut chart =
+        with_axes(area).build_cartesian_2d(0.5..SLOTS as f64 + 0.5, place(rows.frames(), 0.5)..place(1, -0.5))?;
     chart
         .configure_mesh()
         .disable_mesh()

@@ -1,6 +1,6 @@
 //! The picture of points that were sent: dots in the plane of I and Q, each with its labels and how many symbols had it.
 use crate::coordinates::binary;
-use crate::picture::{key, svg, title, Area, Drawn, EDGE, FONT, LEFT_AXIS, LINE, LOWER_AXIS, WIDTH};
+use crate::picture::{key, svg, title, with_axes, Area, Drawn, EDGE, FONT, LEFT_AXIS, LINE, LOWER_AXIS, WIDTH};
 use crate::runs::runs;
 use crate::sent::Dot;
 use plotters::prelude::*;
@@ -124,13 +124,7 @@ pub fn of_points(heading: &str, modulation: Modulation, dots: &[Dot]) -> String 
 fn chart(area: &Area, modulation: Modulation, dots: &[Dot]) -> Drawn {
     let scale = Scale::of(dots);
     let (across, up) = (scale.reach_across(), scale.reach);
-    let mut chart = ChartBuilder::on(area)
-        .x_label_area_size(LOWER_AXIS)
-        .y_label_area_size(LEFT_AXIS - EDGE)
-        .margin_left(EDGE)
-        .margin_right(EDGE)
-        .margin_bottom(EDGE)
-        .build_cartesian_2d(-across..across, -up..up)?;
+    let mut chart = with_axes(area).build_cartesian_2d(-across..across, -up..up)?;
     let mut mesh = chart.configure_mesh();
     mesh.disable_mesh().x_desc(scale.name("I")).y_desc(scale.name("Q")).label_style(FONT);
     mesh.x_labels(NUMBERS.0).y_labels(NUMBERS.1).x_label_formatter(&number).y_label_formatter(&number).draw()?;
