@@ -133,6 +133,9 @@ pub record OneByOne (m symbol : ℕ) (labels : List ℕ) (ins quads : List Float
   pub all : 0 < length labels → ((r : ℕ) → r < length labels → pointNumber m (getD labels r 0) (symbol + r) ins quads ≡ 0)
       → pointsNumber m symbol labels ins quads (length labels) (length labels) ≡ 0
 
+abbrev pub RunOneByOne : Type 0
+RunOneByOne = (m symbol : ℕ) (labels : List ℕ) (ins quads : List Float) → OneByOne m symbol labels ins quads
+
 -- "The modulator wants points, not labels": the labels that the symbol calls make of slots and of TMCC blocks are runs, as many
 -- as there are symbols, and none of them is refused as 12
 pub record LabelsTaken : Type 0 where
@@ -140,6 +143,3 @@ pub record LabelsTaken : Type 0 where
   pub slot-taken : (m rate : ℕ) (slot : List ℕ) → labelNumber m (labelsOfSlot m rate slot) ≡ 0
   pub block-many : (block : List ℕ) → length (labelsOfBlock block) ≡ blockLabels
   pub block-taken : (block : List ℕ) → labelNumber bpsk (labelsOfBlock block) ≡ 0
-
-abbrev pub RunOneByOne : Type 0
-RunOneByOne = (m symbol : ℕ) (labels : List ℕ) (ins quads : List Float) → OneByOne m symbol labels ins quads
