@@ -18,13 +18,16 @@ use Rattle.plan.specs.declared.Answer.{Answer}
 use Rattle.plan.specs.Records.{stateAt}
 use Rattle.plan.specs.States.{movedOn, soundNumber, stateNumber, passNumber, passed}
 use Rattle.plan.specs.StateLaws.{ready}
+use Rattle.codeword.specs.CallLaws.{Earlier, earlier-then, earlier-test, earlier-position}
+use Rattle.codeword.specs.Reading.{noPosition}
 use Rattle.slot.specs.Slots.{slotOf}
 use Rattle.slot.specs.declared.SlotRead.{SlotRead}
-use Rattle.slot.specs.Reading.{stuffIn, noStuff, stuffWith, sourceOf}
+use Rattle.slot.specs.Reading.{noStuff, sourceOf, failingIn}
 use Rattle.slot.specs.Calls.{rowsAt, dataNumber, slotNumber, nextState, codeAnswer, codeArea, readNumber, readAnswer, readArea}
+use Rattle.slot.specs.CallLaws.{state-earlier, data-earlier}
 use Rattle.c_boundary.specs.Narrow.{narrowed}
 use Rattle.c_boundary.specs.NarrowLaws.{as-given, both-refuse}
-use Rattle.c_boundary.specs.Calls.{placed, nextNumber, passCall, reportLong, reportLeft, returnedNumber, slotCall, readCall, Coded, Received}
+use Rattle.c_boundary.specs.Calls.{placed, nextNumber, passCall, reportLong, reportNumber, reportLeft, reportWith, returnedNumber, slotCall, readCall, Coded, Received}
 
 pub next-two : (next : List ℕ) → nextNumber next ≡ 0 → length next ≡ 2
 unfolding nextNumber
@@ -135,7 +138,7 @@ code-good s t source coded next h a r area left w d e f =
     }
 
 pub receive-good : (s : FrameState) (t source coded report next : List ℕ) → andThen (dataNumber s) (returnedNumber report next) ≡ 0
-    → (a : SlotRead) (r : ℕ) (area told left : List ℕ) → r ≡ a .number → told ≡ reportLeft report (a .stuff) → left ≡ pick (eqb (a .state .slot) (s .slot)) next (placed (a .state))
+    → (a : SlotRead) (r : ℕ) (area told left : List ℕ) → r ≡ a .number → told ≡ reportLeft report (a .stuff) (a .position) → left ≡ pick (eqb (a .state .slot) (s .slot)) next (placed (a .state))
     → a ≡ readAnswer s t coded source
     → area ≡ readArea s t coded source
     → Received s t coded source report next r area told left
@@ -145,7 +148,7 @@ receive-good s t source coded report next h a r area told left w x d e f =
     let i = read-is s t source coded m h in
     record {
       octets = record { number = w ∙ ap (λ b. b .number) e ∙ sym i; area = rw i f };
-      report-is = x ∙ ap (λ b. reportLeft report (b .stuff)) e ∙ ap (λ n. reportLeft report (stuffWith n (stuffIn (rowsAt s) (s .mask) (s .register) coded))) (sym i);
+      report-is = x ∙ ap (λ b. reportLeft report (b .stuff) (b .position)) e ∙ ap (λ n. reportWith report n s t coded) (sym i);
       place = place-left s t source coded m h next (a .state) left (ap (λ b. b .state) e) d;
     }
 
@@ -159,6 +162,15 @@ module _ (s : FrameState) (t source coded : List ℕ) (m r : ℕ) (e : r ≡ and
   unfolding readCall
   read-refused = slot-refused ∙ sym (then-first _ _ (λ z. n (slot-refused ∙ z)))
 
+-- that of areas for returned numbers does
+pub returned-earlier : (report next : List ℕ) → Earlier (returnedNumber report next)
+unfolding reportNumber nextNumber
+returned-earlier report next = earlier-then (earlier-test (eqb (length report) reportLong) LENGTH refl) (earlier-test (eqb (length next) 2) LENGTH refl)
+
+-- what is told beside a refusal that comes before the slot itself is read
+pub report-none : (report : List ℕ) (n : ℕ) (s : FrameState) (t c : List ℕ) → (n ≡ 0 → ⊥) → Earlier n → reportWith report n s t c ≡ reportLeft report noStuff noPosition
+report-none report n s t c z h = rw (ne-eqb n 0 z, earlier-position n (failingIn (rowsAt s) t c) h z)
+
 pub code-refused : (s : FrameState) (t source coded next : List ℕ) (r : ℕ) → r ≡ andThen (dataNumber s) (nextNumber next) → (r ≡ 0 → ⊥)
     → Coded s t source coded next r coded next
 code-refused s t source coded next r e n =
@@ -166,7 +178,7 @@ code-refused s t source coded next r e n =
     record { slot = refused _ _ _ _ d n; place = refused _ _ _ _ d n }
 
 pub receive-refused : (s : FrameState) (t source coded report next : List ℕ) (r : ℕ) → r ≡ andThen (dataNumber s) (returnedNumber report next) → (r ≡ 0 → ⊥)
-    → (told : List ℕ) → told ≡ reportLeft report noStuff
+    → (told : List ℕ) → told ≡ reportLeft report noStuff noPosition
     → Received s t coded source report next r source told next
 receive-refused s t source coded report next r e n told x =
     let m = returnedNumber report next in
@@ -174,32 +186,25 @@ receive-refused s t source coded report next r e n told x =
     let c = read-refused s t source coded m r e n in
     record {
       octets = refused _ _ _ _ c n;
-      report-is = x ∙ rw (ne-eqb (readCall s t coded source m) 0 (λ z. n (c ∙ z)));
+      report-is = x ∙ sym (ap (λ (k : ℕ). reportWith report k s t coded) (sym c ∙ e) ∙ report-none report (andThen (dataNumber s) m) s t coded (λ z. n (e ∙ z)) (earlier-then (data-earlier s) (returned-earlier report next)));
       place = rw (ne-eqb (slotCall s t source coded m) 0 (λ z. n (d ∙ z)));
     }
 
--- a number that is chosen is the first of a list that is chosen
-pick-one : (t : Bool) (a b : ℕ) → pick t (a ∷ []) (b ∷ []) ≡ pick t a b ∷ []
-pick-one true a b = refl
-pick-one false a b = refl
-
--- the stuff bits of a slot that a call finds at a state
-abbrev stuffAt : List ℕ → FrameState → ℕ
-stuffAt c s = stuffIn (rowsAt s) (s .mask) (s .register) c
-
 -- what a reading reports is that for the slot number as it was handed over
-pub report-given : (f : FrameState → ℕ) (c : List ℕ) → ((s : FrameState) → (stateNumber s ≡ 0 → ⊥) → f s ≡ stateNumber s)
+pub report-given : (f : FrameState → ℕ) (t c : List ℕ) → ((s : FrameState) → (stateNumber s ≡ 0 → ⊥) → f s ≡ stateNumber s)
     → (p : Plan) (mask start slot register : ℕ) (report told : List ℕ)
     → let a = stateAt p mask start (narrowed slot) register in
     let b = stateAt p mask start slot register in
-    told ≡ reportLeft report (stuffWith (f a) (stuffAt c a)) → told ≡ reportLeft report (stuffWith (f b) (stuffAt c b))
-report-given f c first p mask start slot register report told e =
-    let a = stateAt p mask start (narrowed slot) register in
-    let b = stateAt p mask start slot register in
-    let same = place-given f (λ s. stuffAt c s ∷ []) first p mask start slot register (noStuff ∷ []) (f a) _ (record { number = refl; area = refl }) .area in
-    e
-    ∙ ap (λ (l : List ℕ). pick (eqb (length report) reportLong) l report)
-    (sym (pick-one (eqb (f a) 0) (stuffAt c a) noStuff) ∙ same ∙ pick-one (eqb (f b) 0) (stuffAt c b) noStuff)
+    told ≡ reportWith report (f a) a t c → told ≡ reportWith report (f b) b t c
+report-given f t c first p mask start slot register report told =
+    as-given (λ x. told ≡ reportWith report (f (stateAt p mask start x register)) (stateAt p mask start x register) t c) slot
+    (λ h e.
+    let n = full-refused p mask start slot register (omega arith) in
+    let m : stateNumber (stateAt p mask start 255 register) ≡ 0 → ⊥ = λ z. n (sym (full-alike p mask start slot register (omega arith)) ∙ z) in
+    e ∙ none (stateAt p mask start 255 register) m ∙ sym (none (stateAt p mask start slot register) n))
+  where
+    none : (s : FrameState) → (stateNumber s ≡ 0 → ⊥) → reportWith report (f s) s t c ≡ reportLeft report noStuff noPosition
+    none s n = ap (λ (m : ℕ). reportWith report m s t c) (first s n) ∙ report-none report (stateNumber s) s t c n (state-earlier s)
 
 -- slot calls answer for the slot number as it was handed over
 module _ (p : Plan) (mask start slot register : ℕ) (t source coded next : List ℕ) (r : ℕ) (area left : List ℕ) where
@@ -223,7 +228,7 @@ module _ (p : Plan) (mask start slot register : ℕ) (t source coded next : List
         octets =
             place-given (λ s. readCall s t coded source m) (λ s. sourceOf (rowsAt s) (s .mask) (s .register) coded) (λ s n. read-first s n t source coded m)
             p mask start slot register source r area (c .octets);
-        report-is = report-given (λ s. readCall s t coded source m) coded (λ s n. read-first s n t source coded m) p mask start slot register report told (c .report-is);
+        report-is = report-given (λ s. readCall s t coded source m) t coded (λ s n. read-first s n t source coded m) p mask start slot register report told (c .report-is);
         place =
             place-given (λ s. slotCall s t source coded m) (λ s. placed (nextState s)) (λ s n. slot-first s n t source coded m)
             p mask start slot register next _ left (record { number = refl; area = c .place })

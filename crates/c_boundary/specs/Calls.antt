@@ -1,5 +1,6 @@
 -- The calls at a place of a frame (document 01, "Plan and place" and "Refusal list"): the state they are handed as numbers,
--- `next`, the area of two numbers that takes the state's next slot and register, and `report`, that of a slot's stuff bits.
+-- `next`, the area of two numbers that takes the state's next slot and register, `report`, that of a slot's stuff bits and failing
+-- position, and `position`, that of a failing position alone.
 use mathlib.Core.Path.{_≡_}
 use mathlib.Core.List.{List, [], _∷_}
 use Prim.Native.Nat.{ℕ}
@@ -11,8 +12,9 @@ use Rattle.refusal.specs.Answers.{Answered}
 use Rattle.plan.specs.declared.Plan.{Plan}
 use Rattle.plan.specs.declared.FrameState.{FrameState}
 use Rattle.plan.specs.States.{openNumber, passNumber}
+use Rattle.codeword.specs.Reading.{positionWith}
 use Rattle.slot.specs.Slots.{slotOf}
-use Rattle.slot.specs.Reading.{receivedNumber, stuffIn, stuffWith, sourceOf}
+use Rattle.slot.specs.Reading.{receivedNumber, stuffIn, stuffWith, sourceOf, failingIn}
 use Rattle.slot.specs.Calls.{rowsAt, dataNumber, lentNumber, nextState}
 
 -- what `next` takes of a state
@@ -31,21 +33,34 @@ openCall p mask start next = andThen (openNumber p mask start) (nextNumber next)
 unfoldable pub passCall : FrameState → List ℕ → ℕ
 passCall s next = andThen (passNumber s) (nextNumber next)
 
--- what `report` takes of a reading: "returns them as a number" (document 02, N5), the stuff bits
-abbrev pub reported : ℕ → List ℕ
-reported stuff = stuff ∷ []
+-- what `report` takes of a reading: "returns them as a number" (document 02, N5), the stuff bits, and "the lowest failing parity
+-- position" (N7)
+abbrev pub reported : ℕ → ℕ → List ℕ
+reported stuff position = stuff ∷ position ∷ []
 
--- one number
+-- two numbers
 abbrev pub reportLong : ℕ
-reportLong = 1
+reportLong = 2
 
 -- 4: "a lent area isn't exactly its length"
 unfoldable pub reportNumber : List ℕ → ℕ
 reportNumber report = pick (eqb (length report) reportLong) 0 LENGTH
 
--- what every answer leaves in it, a refusal too ("255 with a refusal"); where it has another length it is left as found
-abbrev pub reportLeft : List ℕ → ℕ → List ℕ
-reportLeft report stuff = pick (eqb (length report) reportLong) (reported stuff) report
+-- what every answer leaves in it, a refusal too ("255 with a refusal", "(else 65535)"); where it has another length it is left as
+-- found
+abbrev pub reportLeft : List ℕ → ℕ → ℕ → List ℕ
+reportLeft report stuff position = pick (eqb (length report) reportLong) (reported stuff position) report
+
+-- beside the number n of a reading at the state s of the slot c
+abbrev pub reportWith : List ℕ → ℕ → FrameState → List ℕ → List ℕ → List ℕ
+reportWith report n s t c = reportLeft report (stuffWith n (stuffIn (rowsAt s) (s .mask) (s .register) c)) (positionWith n (failingIn (rowsAt s) t c))
+
+-- the same two of an area for a failing position alone, of one number
+unfoldable pub positionNumber : List ℕ → ℕ
+positionNumber position = pick (eqb (length position) 1) 0 LENGTH
+
+abbrev pub positionLeft : List ℕ → ℕ → List ℕ
+positionLeft position failing = pick (eqb (length position) 1) (failing ∷ []) position
 
 -- 4 for both areas of numbers that a reading returns
 abbrev pub returnedNumber : List ℕ → List ℕ → ℕ
@@ -70,5 +85,5 @@ pub record Coded (s : FrameState) (t source coded next : List ℕ) (r : ℕ) (ar
 -- register stepped as for a good slot"
 pub record Received (s : FrameState) (t coded source report next : List ℕ) (r : ℕ) (area told left : List ℕ) : Type 0 where
   pub octets : Answered (readCall s t coded source (returnedNumber report next)) (sourceOf (rowsAt s) (s .mask) (s .register) coded) source r area
-  pub report-is : told ≡ reportLeft report (stuffWith (readCall s t coded source (returnedNumber report next)) (stuffIn (rowsAt s) (s .mask) (s .register) coded))
+  pub report-is : told ≡ reportWith report (readCall s t coded source (returnedNumber report next)) s t coded
   pub place : left ≡ pick (eqb (slotCall s t source coded (returnedNumber report next)) 0) (placed (nextState s)) next

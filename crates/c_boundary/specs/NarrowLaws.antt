@@ -11,7 +11,6 @@ use Rattle.lists.specs.Choice.{pick}
 use Rattle.refusal.specs.Answers.{Answered}
 use Rattle.refusal.specs.Numbers.{PLAN}
 use Rattle.plan.specs.Rates.{rateOk, modulationOk, rowCounts, rowsOf, dataBitsOf, dataOctetsOf, packetsOf}
-use Rattle.slot.specs.Calls.{formNumber, checkNumber}
 use Rattle.packets.specs.Packets.{packed, unpacked, sizeNumber, packNumber, unpackNumber}
 use Rattle.published.specs.Published.{tableOf, lengthOf, copyNumber}
 use Rattle.symbols.specs.Labels.{labelsOfSlot, slotOfLabels, slotNumber, slotOfLabelsNumber}
@@ -57,11 +56,6 @@ both-refuse n m right other found r left e h a =
 pub both-unknown : {A : Type 0} (n m : ℕ) (right other found : List A) (r : ℕ) (left : List A) → n ≡ PLAN → m ≡ PLAN → Answered n right found r left → Answered m other found r left
 both-unknown n m right other found r left e d =
     both-refuse n m right other found r left (e ∙ sym d) (λ z. omega (arith, d, z))
-
-pub check-given : (rate : ℕ) (t coded : List ℕ) → checkNumber (narrowed rate) t coded ≡ checkNumber rate t coded
-unfolding checkNumber formNumber
-check-given rate t coded =
-    as-given (λ x. checkNumber (narrowed rate) t coded ≡ checkNumber x t coded) rate (λ h p. p ∙ rw (unknown-rate rate h)) refl
 
 module _ (rate : ℕ) (from found : List ℕ) (r : ℕ) (left : List ℕ) where
   pub pack-given :

@@ -1,4 +1,5 @@
-// The state of a call, the area that takes its next slot and register, and the one that takes a slot's stuff bits.
+// The state of a call, and the areas that take numbers: its next slot and register, a slot's stuff bits and failing position, and
+// a failing position alone.
 ghost use mathlib.Core.Path.{_≡_};
 ghost use lib.Dec.{eqb};
 ghost use lib.ListN.{length};
@@ -7,14 +8,18 @@ ghost use Rattle.refusal.specs.Numbers.{LENGTH};
 ghost use Rattle.plan.specs.Records.{stateAt};
 ghost use Rattle.c_boundary.specs.Narrow.{narrowed};
 ghost use Rattle.c_boundary.specs.Plans.{planOf};
-ghost use Rattle.c_boundary.specs.Calls.{placed, nextNumber, returnedNumber, reportLeft};
+ghost use Rattle.c_boundary.specs.Calls.{placed, nextNumber, returnedNumber, reportLeft, positionNumber, positionLeft};
 use crate::numbers::narrow;
 use crate::numbers::word;
 use crate::plans::plan_of;
 use plan::FrameState;
 
-// How many numbers `report` has.
-const REPORT: usize = 1;
+// How many numbers `next`, `report` and `position` have.
+const NEXT: usize = 2;
+
+const REPORT: usize = 2;
+
+const POSITION: usize = 1;
 
 // The state that a call is handed.
 pub fn state_of(plan: &[u8], mask: u32, start: u32, slot: u32, register: u32) -> FrameState
@@ -23,14 +28,14 @@ pub fn state_of(plan: &[u8], mask: u32, start: u32, slot: u32, register: u32) ->
     plan::state_at(plan_of(plan), mask, start, narrow(slot), register)
 }
 
-// A number that refuses, then the refusal of an area that is not two numbers long, or 0.
-pub fn with_two(number: u8, length: usize) -> u32
-    ensures { λ r. ⌜ r ≡ andThen number (pick (eqb length 2) 0 LENGTH) ⌝ }
+// A number that refuses, then the refusal of an area that has not the length wanted, or 0.
+pub fn with_length(number: u8, length: usize, wanted: usize) -> u32
+    ensures { λ r. ⌜ r ≡ andThen number (pick (eqb length wanted) 0 LENGTH) ⌝ }
 {
     if number != 0 {
         return word(number);
     }
-    if length != 2 {
+    if length != wanted {
         return word(refusal::LENGTH);
     }
     0
@@ -40,7 +45,14 @@ pub fn with_two(number: u8, length: usize) -> u32
 pub fn with_next(number: u8, next: &[u32]) -> u32
     ensures { λ r. ⌜ r ≡ andThen number (nextNumber (now (next .entry))) ⌝ }
 {
-    with_two(number, next.len())
+    with_length(number, next.len(), NEXT)
+}
+
+// The same of the area `position`.
+pub fn with_position(number: u8, position: &[u16]) -> u32
+    ensures { λ r. ⌜ r ≡ andThen number (positionNumber (now (position .entry))) ⌝ }
+{
+    with_length(number, position.len(), POSITION)
 }
 
 // The same of the areas `report` and `next`.
@@ -56,12 +68,22 @@ pub fn with_report(number: u8, report: &[u16], next: &[u32]) -> u32
     with_next(0, next)
 }
 
-// Puts a slot's stuff bits where `report` has its length.
-pub fn put_report(stuff: u8, report: &mut [u16])
-    ensures { λ _. ⌜ now (report .exit) ≡ reportLeft (now (report .entry)) stuff ⌝ }
+// Puts a slot's stuff bits and failing position where `report` has its length.
+pub fn put_report(stuff: u8, position: u16, report: &mut [u16])
+    ensures { λ _. ⌜ now (report .exit) ≡ reportLeft (now (report .entry)) stuff position ⌝ }
 {
     if report.len() == REPORT {
         report[0] = stuff as u16;
+        report[1] = position;
+    }
+}
+
+// Puts a failing position where its area has its length.
+pub fn put_position(failing: u16, position: &mut [u16])
+    ensures { λ _. ⌜ now (position .exit) ≡ positionLeft (now (position .entry)) failing ⌝ }
+{
+    if position.len() == POSITION {
+        position[0] = failing;
     }
 }
 

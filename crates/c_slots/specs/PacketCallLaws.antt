@@ -13,15 +13,17 @@ use Rattle.plan.specs.declared.FrameState.{FrameState}
 use Rattle.plan.specs.declared.Answer.{Answer}
 use Rattle.plan.specs.Records.{stateAt}
 use Rattle.plan.specs.States.{stateNumber}
+use Rattle.codeword.specs.CallLaws.{earlier-then}
+use Rattle.codeword.specs.Reading.{noPosition}
 use Rattle.slot.specs.Slots.{slotOf}
 use Rattle.slot.specs.declared.SlotRead.{SlotRead}
-use Rattle.slot.specs.Reading.{stuffIn, noStuff, stuffWith}
+use Rattle.slot.specs.Reading.{noStuff}
 use Rattle.slot.specs.Calls.{rowsAt, dataNumber, nextState, readAnswer}
 use Rattle.stream.specs.SlotPackets.{laid, laidNumber, roomNumber, sourceArea, codePacketsAnswer, codePacketsArea, slotAnswer, headerIn, packetsIn, readPacketsAnswer, readHeaderArea, readPacketsArea}
-use Rattle.stream.specs.SlotPacketsLaws.{lays, room}
+use Rattle.stream.specs.SlotPacketsLaws.{lays, room, room-earlier}
 use Rattle.c_boundary.specs.Narrow.{narrowed}
-use Rattle.c_boundary.specs.Calls.{placed, nextNumber, reportLeft, returnedNumber, slotCall, readCall}
-use Rattle.c_boundary.specs.CallLaws.{place-given, report-given, code-good, read-is, place-left}
+use Rattle.c_boundary.specs.Calls.{placed, nextNumber, reportLeft, reportWith, returnedNumber, slotCall, readCall}
+use Rattle.c_boundary.specs.CallLaws.{place-given, report-given, report-none, returned-earlier, code-good, read-is, place-left}
 use Rattle.c_slots.specs.PacketCalls.{codePacketsCall, roomCall, readPacketsCall, CodedPackets, ReceivedPackets}
 
 -- a state's own refusal is that of each call
@@ -74,7 +76,7 @@ module _ (s : FrameState) (t header packets coded : List ℕ) (m : ℕ) (h : and
   call-is = rw room-is
 
 pub packets-received : (s : FrameState) (t header packets coded report next : List ℕ) → andThen (roomNumber s header packets) (returnedNumber report next) ≡ 0
-    → (a : SlotRead) (r : ℕ) (head area told left : List ℕ) → r ≡ a .number → told ≡ reportLeft report (a .stuff) → left ≡ pick (eqb (a .state .slot) (s .slot)) next (placed (a .state))
+    → (a : SlotRead) (r : ℕ) (head area told left : List ℕ) → r ≡ a .number → told ≡ reportLeft report (a .stuff) (a .position) → left ≡ pick (eqb (a .state .slot) (s .slot)) next (placed (a .state))
     → a ≡ readPacketsAnswer s t coded header packets
     → head ≡ readHeaderArea s t coded header packets
     → area ≡ readPacketsArea s t coded header packets
@@ -89,7 +91,7 @@ packets-received s t header packets coded report next h a r head area told left 
     record {
       header-is = record { number = w ∙ ap (λ q. q .number) b ∙ sym m; area = rw m (rw z at f) };
       packets-are = record { number = w ∙ ap (λ q. q .number) b ∙ sym m; area = rw m (rw z at g) };
-      report-is = x ∙ ap (λ q. reportLeft report (q .stuff)) b ∙ ap (λ i. reportLeft report (stuffWith i (stuffIn (rowsAt s) (s .mask) (s .register) coded))) (sym m);
+      report-is = x ∙ ap (λ q. reportLeft report (q .stuff) (q .position)) b ∙ ap (λ i. reportWith report i s t coded) (sym m);
       place =
           place-left s t (sourceArea s) coded n p next (a .state) left (ap (λ q. q .state) b) d
           ∙ ap (λ (i : ℕ). pick (eqb i 0) (placed (nextState s)) next) (sym (room-is s t header packets coded n h));
@@ -112,7 +114,7 @@ module _ (s : FrameState) (t header packets coded : List ℕ) (r : ℕ) (n : r �
   read-refused m e = e ∙ sym (then-first _ _ (λ z. n (e ∙ z)))
 
   pub packets-not-received : (report next : List ℕ) → r ≡ andThen (roomNumber s header packets) (returnedNumber report next)
-      → (told : List ℕ) → told ≡ reportLeft report noStuff
+      → (told : List ℕ) → told ≡ reportLeft report noStuff noPosition
       → ReceivedPackets s t coded header packets report next r header packets told next
   packets-not-received report next e told x =
       let m = returnedNumber report next in
@@ -121,7 +123,9 @@ module _ (s : FrameState) (t header packets coded : List ℕ) (r : ℕ) (n : r �
       record {
         header-is = refused _ _ _ _ c n;
         packets-are = refused _ _ _ _ c n;
-        report-is = x ∙ rw (ne-eqb (readPacketsCall s t coded header packets m) 0 (λ z. n (c ∙ z)));
+        report-is =
+            x
+            ∙ sym (ap (λ (k : ℕ). reportWith report k s t coded) (sym c ∙ e) ∙ report-none report (andThen (roomNumber s header packets) m) s t coded (λ z. n (e ∙ z)) (earlier-then (room-earlier s header packets) (returned-earlier report next)));
         place = rw (ne-eqb (roomCall s t coded header packets m) 0 (λ z. n (d ∙ z)));
       }
 
@@ -150,7 +154,7 @@ module _ (p : Plan) (mask start slot register : ℕ) (t header packets coded nex
         packets-are =
             place-given (λ s. readPacketsCall s t coded header packets m) (λ s. packetsIn s coded) (λ s n. read-first s n t header packets coded m)
             p mask start slot register packets r area (c .packets-are);
-        report-is = report-given (λ s. readPacketsCall s t coded header packets m) coded (λ s n. read-first s n t header packets coded m) p mask start slot register report told (c .report-is);
+        report-is = report-given (λ s. readPacketsCall s t coded header packets m) t coded (λ s n. read-first s n t header packets coded m) p mask start slot register report told (c .report-is);
         place =
             place-given (λ s. roomCall s t coded header packets m) (λ s. placed (nextState s)) (λ s n. room-first s n t header packets coded m)
             p mask start slot register next _ left (record { number = refl; area = c .place })

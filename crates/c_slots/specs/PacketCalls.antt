@@ -1,5 +1,5 @@
 -- The calls on a slot and its packets (document 01, "Rates and slot" and "Refusal list"), with `next`, the area of two numbers
--- that takes the state's next slot and register, and `report`, that of a slot's stuff bits.
+-- that takes the state's next slot and register, and `report`, that of a slot's stuff bits and failing position.
 use mathlib.Core.Path.{_≡_}
 use mathlib.Core.List.{List}
 use Prim.Native.Nat.{ℕ}
@@ -8,10 +8,10 @@ use Rattle.lists.specs.Choice.{pick, andThen}
 use Rattle.refusal.specs.Answers.{Answered}
 use Rattle.plan.specs.declared.FrameState.{FrameState}
 use Rattle.slot.specs.Slots.{slotOf}
-use Rattle.slot.specs.Reading.{receivedNumber, stuffIn, stuffWith}
+use Rattle.slot.specs.Reading.{receivedNumber}
 use Rattle.slot.specs.Calls.{rowsAt, lentNumber, nextState}
 use Rattle.stream.specs.SlotPackets.{laid, laidNumber, roomNumber, sourceArea, headerIn, packetsIn}
-use Rattle.c_boundary.specs.Calls.{placed, nextNumber, reportLeft, returnedNumber}
+use Rattle.c_boundary.specs.Calls.{placed, nextNumber, reportWith, returnedNumber}
 
 -- "Slot calls: 1, 6 .., 3, 2", "Packing: 1, 4, 7", then 4 for header, `next` and slot, and 5
 unfoldable pub codePacketsCall : FrameState → List ℕ → List ℕ → List ℕ → List ℕ → List ℕ → ℕ
@@ -38,5 +38,5 @@ pub record CodedPackets (s : FrameState) (t header packets coded next : List ℕ
 pub record ReceivedPackets (s : FrameState) (t coded header packets report next : List ℕ) (r : ℕ) (head area told left : List ℕ) : Type 0 where
   pub header-is : Answered (readPacketsCall s t coded header packets (returnedNumber report next)) (headerIn s coded) header r head
   pub packets-are : Answered (readPacketsCall s t coded header packets (returnedNumber report next)) (packetsIn s coded) packets r area
-  pub report-is : told ≡ reportLeft report (stuffWith (readPacketsCall s t coded header packets (returnedNumber report next)) (stuffIn (rowsAt s) (s .mask) (s .register) coded))
+  pub report-is : told ≡ reportWith report (readPacketsCall s t coded header packets (returnedNumber report next)) s t coded
   pub place : left ≡ pick (eqb (roomCall s t coded header packets (returnedNumber report next)) 0) (placed (nextState s)) next

@@ -29,8 +29,8 @@ pub fn code_packets(
     c_boundary::word(answer.number)
 }
 
-// Reads the next slot into its header and packets, and puts its stuff bits into `report`; a refusal leaves header and packets
-// as they were, and `next` too unless the slot itself was refused.
+// Reads the next slot into its header and packets, and puts its stuff bits and failing position into `report`; a refusal leaves
+// header and packets as they were, and `next` too unless the slot itself was refused.
 pub fn read_packets(
     plan: &[u8],
     mask: u32,
@@ -49,11 +49,11 @@ pub fn read_packets(
     let state = c_boundary::state_of(plan, mask, start, slot, register);
     let number = c_boundary::with_report(stream::room_number(state, header, packets), report, next);
     if number != 0 {
-        c_boundary::put_report(slot::NO_STUFF, report);
+        c_boundary::put_report(slot::NO_STUFF, codeword::NO_POSITION, report);
         return number;
     }
     let read = stream::read_packets(state, table, coded, header, packets);
-    c_boundary::put_report(read.stuff, report);
+    c_boundary::put_report(read.stuff, read.position, report);
     let after = read.state;
     c_boundary::put_moved(state.slot, after, next);
     c_boundary::word(read.number)

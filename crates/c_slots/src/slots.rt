@@ -28,8 +28,8 @@ pub fn code_slot(
     c_boundary::word(answer.number)
 }
 
-// Reads the next slot into header and data octets, and puts its stuff bits into `report`; a refusal leaves the octets as they
-// were, and `next` too unless the slot itself was refused.
+// Reads the next slot into header and data octets, and puts its stuff bits and failing position into `report`; a refusal leaves
+// the octets as they were, and `next` too unless the slot itself was refused.
 pub fn read_slot(
     plan: &[u8],
     mask: u32,
@@ -47,11 +47,11 @@ pub fn read_slot(
     let state = c_boundary::state_of(plan, mask, start, slot, register);
     let number = c_boundary::with_report(slot::data_number(state), report, next);
     if number != 0 {
-        c_boundary::put_report(slot::NO_STUFF, report);
+        c_boundary::put_report(slot::NO_STUFF, codeword::NO_POSITION, report);
         return number;
     }
     let read = slot_reader::read_slot(state, table, coded, source);
-    c_boundary::put_report(read.stuff, report);
+    c_boundary::put_report(read.stuff, read.position, report);
     let after = read.state;
     c_boundary::put_moved(state.slot, after, next);
     c_boundary::word(read.number)

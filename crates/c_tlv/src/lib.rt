@@ -32,7 +32,7 @@ pub fn fill(
     let before = taken as usize;
     let short = owed as usize;
     let lent = tlv_fill::lent_number(k, packets.len(), before, short, slots.len(), begins.len());
-    let number = c_boundary::with_two(lent, next.len());
+    let number = c_boundary::with_length(lent, next.len(), 2);
     if number != 0 {
         put_two(0, 0, next);
         return number;
@@ -57,7 +57,7 @@ pub fn read(
     let k = c_boundary::narrow(rate);
     let from = first as usize;
     let lent = tlv_read::read_number(k, slots, begins, lost, from, packets.len());
-    let number = c_boundary::with_two(lent, next.len());
+    let number = c_boundary::with_length(lent, next.len(), 2);
     if number != 0 {
         put_two(0, 0, next);
         return number;

@@ -9,7 +9,7 @@ use Rattle.parity_table.specs.Tables.{positions, tableOk}
 use Rattle.codeword.specs.declared.Shape.{Shape}
 use Rattle.codeword.specs.Words.{runBits, registerAfter}
 use Rattle.codeword.specs.WordLaws.{Fits}
-use Rattle.codeword.specs.Reading.{takenOff, wordNumber}
+use Rattle.codeword.specs.Reading.{takenOff, wrongPosition, positionWith, wordNumber}
 
 -- the bits before the parity, and an area for the parity input
 pub record Input (F : Shape) (run input : List ℕ) : Type 0 where
@@ -47,8 +47,9 @@ pub record Run (F : Shape) (run : List ℕ) : Type 0 where
   pub long : length run ≡ runBits F
   pub bits : Bits run
 
--- a word read: its number, the register after it, and its bits with dispersal taken off
-pub record ReadOf (F : Shape) (t : List ℕ) (mask r : ℕ) (c : List ℕ) (n g : ℕ) (bits : List ℕ) : Type 0 where
+-- a word read: its number, the position told beside it, the register after it, and its bits with dispersal taken off
+pub record ReadOf (F : Shape) (t : List ℕ) (mask r : ℕ) (c : List ℕ) (n p g : ℕ) (bits : List ℕ) : Type 0 where
   pub number : n ≡ wordNumber F t mask r c
+  pub position : p ≡ positionWith (wordNumber F t mask r c) (wrongPosition F t c)
   pub register : g ≡ registerAfter F mask r
   pub plain : take (runBits F) bits ≡ takenOff F mask r c

@@ -36,9 +36,9 @@ use Rattle.tmcc.specs.CallLaws.{lent}
 use Rattle.tmcc.specs.RoundTrips as blocks
 use Rattle.frame.specs.Tables.{tableOf}
 use Rattle.frame.specs.Steps.{tableAt, answerAt, stuffAt, readAt}
-use Rattle.frame.specs.StepLaws.{coded-data, coded-dummy, answer-data, answer-dummy, stuff-dummy, read-dummy}
+use Rattle.frame.specs.StepLaws.{coded-data, coded-dummy, answer-data, answer-dummy, stuff-dummy, position-dummy, read-dummy}
 use Rattle.frame.specs.Frames.{rowsOfSlot, registerBefore, stateBefore, slotIn, octetsOfSlot, sourceFrom, sourceIn, frameOf, answersOf, stuffsOf, sourcesOf}
-use Rattle.frame.specs.FrameLaws.{at, sourceFrom-none, sourceFrom-more, data-long, length-slotIn, length-frameOf, length-sourcesOf, slot-at, answer-at, stuff-at, source-at}
+use Rattle.frame.specs.FrameLaws.{at, sourceFrom-none, sourceFrom-more, data-long, length-slotIn, length-frameOf, length-sourcesOf, slot-at, answer-at, stuff-at, position-at, source-at}
 use Rattle.frame.specs.CallLaws.{Lent, frame-lent, frame-yes, read-lent, read-yes}
 use Rattle.frame.specs.SlotBySlot.{coded-to, read-to, taken, code-answer, code-area, read-answer, read-area, pass-answer}
 use Rattle.lookup.specs.LookupLaws.{tables-accepted}
@@ -153,11 +153,11 @@ module _ (p : Plan) (mask start : ℕ) (ts source frame out : List ℕ) (o : Oct
 
 pub frame-coded-then-read : FrameCodedThenRead
 unfolding sourcesOf
-frame-coded-then-read p mask start ts source frame out answers stuff o lo la ls n =
+frame-coded-then-read p mask start ts source frame out answers stuff positions o lo la ls lp n =
     let l = frame-lent p mask start ts (length source) (length frame) n in
     let c = frameOf p ts mask start source frame in
     record {
-      number = read-yes p mask start ts (length out) (length c) (length answers) (length stuff) la ls
+      number = read-yes p mask start ts (length out) (length c) (length answers) (length stuff) (length positions) la ls lp
           (record { opened = l .opened; source-long = lo ∙ l .source-long; frame-long = length-frameOf p ts mask start source frame (l .frame-long); tables = l .tables });
       sources = joined-same 120 (λ k. readAt (stateBefore p mask start k) ts (slotIn c k) (sourceIn p out k)) (sourceIn p source) (λ k h. slot-back p mask start ts source frame out o l k h .1)
           ∙ pieces-all 120 (sourceFrom p) source (sourceFrom-none p) (λ k h. omega (arith, sourceFrom-more p k)) (l .source-long);
@@ -189,8 +189,8 @@ module _ (p : Plan) (mask start : ℕ) (ts frame source out : List ℕ) (o : Oct
       rw (x, f) (slots.read-coded R t mask r d (at p ts mask start (l .opened) (l .tables) k h .rows) w g)
 
 pub frame-read-then-coded : FrameReadThenCoded
-frame-read-then-coded p mask start ts frame source answers stuff out o lo n =
-    let l = read-lent p mask start ts (length source) (length frame) (length answers) (length stuff) n .2 in
+frame-read-then-coded p mask start ts frame source answers stuff positions out o lo n =
+    let l = read-lent p mask start ts (length source) (length frame) (length answers) (length stuff) (length positions) n .3 in
     let long = length-sourcesOf p ts mask start frame source (l .source-long) in
     record {
       number = frame-yes p mask start ts (length (sourcesOf p ts mask start frame source)) (length out)
@@ -201,7 +201,7 @@ frame-read-then-coded p mask start ts frame source answers stuff out o lo n =
 -- a data slot is answered as a received slot is, and a dummy is answered 2
 pub frame-slot-accepted : FrameSlotAccepted
 unfolding rowsAt tableAt
-frame-slot-accepted p mask start ts source frame answers stuff n k h = go (carries p (k + 1)) refl
+frame-slot-accepted p mask start ts source frame answers stuff positions n k h = go (carries p (k + 1)) refl
   where
     s : FrameState
     s = stateBefore p mask start k
@@ -213,7 +213,7 @@ frame-slot-accepted p mask start ts source frame answers stuff n k h = go (carri
     good = Good (slotShape (rowsOfSlot p (k + 1))) (tableOf p ts (groupAt p (k + 1))) mask (registerBefore p mask start k) d
 
     l : Lent p mask start ts (length source) (length frame)
-    l = read-lent p mask start ts (length source) (length frame) (length answers) (length stuff) n .2
+    l = read-lent p mask start ts (length source) (length frame) (length answers) (length stuff) (length positions) n .3
 
     right : (receivedNumber (rowsOfSlot p (k + 1)) (tableOf p ts (groupAt p (k + 1))) mask (registerBefore p mask start k) d ≡ 0) ↔ good
     right =
@@ -250,8 +250,8 @@ frame-coded-by-slots p mask start ts source frame n =
     }
 
 pub frame-read-by-slots : FrameReadBySlots
-frame-read-by-slots p mask start ts source frame answers stuff n =
-    let l = read-lent p mask start ts (length source) (length frame) (length answers) (length stuff) n .2 in
+frame-read-by-slots p mask start ts source frame answers stuff positions n =
+    let l = read-lent p mask start ts (length source) (length frame) (length answers) (length stuff) (length positions) n .3 in
     let to = read-to p mask start ts source frame l in
     record {
       state = to;
@@ -261,6 +261,7 @@ frame-read-by-slots p mask start ts source frame answers stuff n =
           rw (to k (omega arith)) (
             read-answer s ts (sourceIn p source k) (slotIn frame k) t c .0 ∙ sym (answer-at p ts mask start frame k h),
             read-answer s ts (sourceIn p source k) (slotIn frame k) t c .2 ∙ sym (stuff-at p ts mask start frame k h),
+            read-answer s ts (sourceIn p source k) (slotIn frame k) t c .3 ∙ sym (position-at p ts mask start frame k h),
             read-area s ts (sourceIn p source k) (slotIn frame k) t c ∙ sym (source-at p ts mask start frame source (l .source-long) k h),
           );
       dummy = λ k h c.
@@ -269,5 +270,6 @@ frame-read-by-slots p mask start ts source frame answers stuff n =
             pass-answer s ts (at p ts mask start (l .opened) (l .tables) k h .ready) c .0,
             answer-at p ts mask start frame k h ∙ answer-dummy s ts c (slotIn frame k),
             stuff-at p ts mask start frame k h ∙ stuff-dummy s ts c (slotIn frame k),
+            position-at p ts mask start frame k h ∙ position-dummy s ts c (slotIn frame k),
           );
     }

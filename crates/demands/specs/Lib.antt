@@ -3,6 +3,7 @@ pub mod Requests
 pub mod CardRequests
 pub mod StuffRequests
 pub mod PointRequests
+pub mod PositionRequests
 pub mod DemandTwo
 pub mod DemandThree
 pub mod WorkedByHand
@@ -12,3 +13,4 @@ pub mod ParitySteps
 pub mod CardRules
 pub mod StuffRules
 pub mod PointRules
+pub mod PositionRules

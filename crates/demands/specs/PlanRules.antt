@@ -21,7 +21,7 @@ use Rattle.run_list.specs.Listing.{refusedText, answerText}
 use Rattle.published.specs.Published.{copyNumber}
 use Rattle.packets.specs.Packets.{sizeNumber, packNumber, unpackNumber}
 use Rattle.symbols.specs.Labels.{slotNumber as labelsNumber, slotOfLabelsNumber}
-use Rattle.slot.specs.Calls.{dataNumber, slotNumber, codeAnswer, readNumber, readAnswer, formNumber, checkNumber}
+use Rattle.slot.specs.Calls.{dataNumber, slotNumber, codeAnswer, readNumber, readAnswer, rateNumber, formNumber, checkNumber}
 use Rattle.stream.specs.SlotPackets.{laidNumber, roomNumber, codePacketsAnswer, readPacketsAnswer}
 use Rattle.frame.specs.Frames.{wholeNumber, frameNumber, readFrameNumber}
 use Rattle.lookup.specs.Lookups.{tablesNumber, placeNumber, placed}
@@ -42,7 +42,7 @@ refused-plan-answered p h =
     record {
       opening = o;
       code = λ mask start ts source frame. onward (openNumber p mask start) _ _ (o mask start) h;
-      read = λ mask start ts source frame answers stuff. onward (openNumber p mask start) _ _ (o mask start) h;
+      read = λ mask start ts source frame answers stuff positions. onward (openNumber p mask start) _ _ (o mask start) h;
       tables = λ area. then-first (planNumber p) _ h;
       place = λ slot. rw (ne-eqb (slot + 1) 0 (λ e. omega arith)) (then-first (planNumber p) _ h);
     }
@@ -106,7 +106,7 @@ refused-text-printed t =
     }
 
 pub unknown-refused : UnknownRefused
-unfolding copyNumber packNumber unpackNumber sizeNumber checkNumber formNumber labelsNumber slotOfLabelsNumber
+unfolding copyNumber packNumber unpackNumber sizeNumber checkNumber formNumber rateNumber labelsNumber slotOfLabelsNumber
 unknown-refused m rate =
     record {
       table = λ h area. rw h;

@@ -60,7 +60,7 @@ PlanRefused = (p : Plan) → FirstBroken p
 pub record PlanAnswers (p : Plan) (n : ℕ) : Type 0 where
   pub opening : (mask start : ℕ) → opened p mask start .number ≡ n
   pub code : (mask start : ℕ) (ts : List ℕ) (source frame : ℕ) → frameNumber p mask start ts source frame ≡ n
-  pub read : (mask start : ℕ) (ts : List ℕ) (source frame answers stuff : ℕ) → readFrameNumber p mask start ts source frame answers stuff ≡ n
+  pub read : (mask start : ℕ) (ts : List ℕ) (source frame answers stuff positions : ℕ) → readFrameNumber p mask start ts source frame answers stuff positions ≡ n
   pub tables : (area : List ℕ) → tablesNumber p area ≡ n
   pub place : (slot : ℕ) → placed p (slot + 1) .number ≡ n
 

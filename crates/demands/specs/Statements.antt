@@ -33,7 +33,7 @@ use Rattle.symbols.specs.Index.{bitAt, rightToLeft}
 use Rattle.symbols.specs.Labels.{labelsOfSlot, slotOfLabels, labelsOfBlock, blockOfLabels, blockLabels, slotNumber as labelsNumber, slotOfLabelsNumber, blockNumber as blockLabelsNumber, blockOfLabelsNumber}
 use Rattle.codeword.specs.declared.Shape.{Shape}
 use Rattle.codeword.specs.Words.{registerAfter as wordRegisterAfter}
-use Rattle.codeword.specs.Reading.{parityIn, takenOff, bchIn, Good, EvenTimes}
+use Rattle.codeword.specs.Reading.{parityIn, takenOff, bchIn, noPosition, Good, EvenTimes}
 use Rattle.slot.specs.Slots.{slotShape, registerAfter}
 use Rattle.slot.specs.Reading.{covered, parity, noStuff, stuffOnes, MovesOn}
 use Rattle.slot.specs.Calls.{rowsAt, slotNumber, codeAnswer, codeArea, readAnswer, readArea, Reads, CodedAgain, CodedBack}
@@ -42,7 +42,7 @@ use Rattle.tmcc.specs.Blocks.{sourceOctets as tmccOctets, blockShape, messageOf
 use Rattle.tmcc.specs.Calls.{lentNumber as blockLentNumber, codeNumber, readNumber}
 use Rattle.frame.specs.Tables.{tableOf, tablesOk}
 use Rattle.frame.specs.Steps.{tableAt}
-use Rattle.frame.specs.Frames.{rowsOfSlot, registerBefore, stateBefore, slotIn, sourceIn, frameOf, answersOf, stuffsOf, sourcesOf, frameNumber, readFrameNumber}
+use Rattle.frame.specs.Frames.{rowsOfSlot, registerBefore, stateBefore, slotIn, sourceIn, frameOf, answersOf, stuffsOf, positionsOf, sourcesOf, frameNumber, readFrameNumber}
 use Rattle.frame.specs.Walks.{codedTo, readTo}
 use Rattle.lookup.specs.Lookups.{tablesOf}
 
@@ -95,7 +95,8 @@ SlotAccepted =
 -- so for every slot of a frame that is read
 abbrev pub FrameSlotAccepted : Type 0
 FrameSlotAccepted =
-    (p : Plan) (mask start : ℕ) (ts source frame answers stuff : List ℕ) → readFrameNumber p mask start ts (length source) (length frame) (length answers) (length stuff) ≡ 0
+    (p : Plan) (mask start : ℕ) (ts source frame answers stuff positions : List ℕ)
+    → readFrameNumber p mask start ts (length source) (length frame) (length answers) (length stuff) (length positions) ≡ 0
     → (k : ℕ) → k < 120
     → (getD (answersOf p ts mask start frame) k 0 ≡ 0)
     ↔ ((carries p (k + 1) ≡ true) × Good (slotShape (rowsOfSlot p (k + 1))) (tableOf p ts (groupAt p (k + 1))) mask (registerBefore p mask start k) (slotIn frame k))
@@ -115,17 +116,18 @@ SlotMovesOn =
     → readAnswer s other received out .state ≡ codeAnswer s t source coded .state
 
 -- a frame that was coded is read: all header and data octets, and for each data slot 0 and stuff bits of ones
-pub record FrameBack (p : Plan) (mask start : ℕ) (ts source coded out answers stuff : List ℕ) : Type 0 where
-  pub number : readFrameNumber p mask start ts (length out) (length coded) (length answers) (length stuff) ≡ 0
+pub record FrameBack (p : Plan) (mask start : ℕ) (ts source coded out answers stuff positions : List ℕ) : Type 0 where
+  pub number : readFrameNumber p mask start ts (length out) (length coded) (length answers) (length stuff) (length positions) ≡ 0
   pub sources : sourcesOf p ts mask start coded out ≡ source
   pub each : (k : ℕ) → k < 120 → getD (answersOf p ts mask start coded) k 0 ≡ pick (carries p (k + 1)) 0 DUMMY
   pub stuffed : (k : ℕ) → k < 120 → getD (stuffsOf p ts mask start coded) k 0 ≡ pick (carries p (k + 1)) stuffOnes noStuff
 
 abbrev pub FrameCodedThenRead : Type 0
 FrameCodedThenRead =
-    (p : Plan) (mask start : ℕ) (ts source frame out answers stuff : List ℕ) → Octets source → length out ≡ length source → length answers ≡ 120 → length stuff ≡ 120
+    (p : Plan) (mask start : ℕ) (ts source frame out answers stuff positions : List ℕ) → Octets source → length out ≡ length source
+    → length answers ≡ 120 → length stuff ≡ 120 → length positions ≡ 120
     → frameNumber p mask start ts (length source) (length frame) ≡ 0
-    → FrameBack p mask start ts source (frameOf p ts mask start source frame) out answers stuff
+    → FrameBack p mask start ts source (frameOf p ts mask start source frame) out answers stuff positions
 
 -- a frame that was read is coded again: every data slot that was accepted is that slot again, as document 02, N5, has it
 pub record FrameAgain (p : Plan) (mask start : ℕ) (ts frame sources out : List ℕ) : Type 0 where
@@ -136,8 +138,8 @@ pub record FrameAgain (p : Plan) (mask start : ℕ) (ts frame sources out : List
 
 abbrev pub FrameReadThenCoded : Type 0
 FrameReadThenCoded =
-    (p : Plan) (mask start : ℕ) (ts frame source answers stuff out : List ℕ) → Octets frame → length out ≡ length frame
-    → readFrameNumber p mask start ts (length source) (length frame) (length answers) (length stuff) ≡ 0
+    (p : Plan) (mask start : ℕ) (ts frame source answers stuff positions out : List ℕ) → Octets frame → length out ≡ length frame
+    → readFrameNumber p mask start ts (length source) (length frame) (length answers) (length stuff) (length positions) ≡ 0
     → FrameAgain p mask start ts frame (sourcesOf p ts mask start frame source) out
 
 -- "It starts from plan and settings at slot 1 and equals the slot-by-slot calls": coding, from opening, dummies passed
@@ -162,15 +164,18 @@ pub record ReadBySlots (p : Plan) (mask start : ℕ) (ts source frame : List ℕ
       → let s = readTo p mask start ts source frame k in
       (readAnswer s (tableAt s ts) (slotIn frame k) (sourceIn p source k) .number ≡ getD (answersOf p ts mask start frame) k 0)
       × (readAnswer s (tableAt s ts) (slotIn frame k) (sourceIn p source k) .stuff ≡ getD (stuffsOf p ts mask start frame) k 0)
+      × (readAnswer s (tableAt s ts) (slotIn frame k) (sourceIn p source k) .position ≡ getD (positionsOf p ts mask start frame) k 0)
       × (readArea s (tableAt s ts) (slotIn frame k) (sourceIn p source k) ≡ sourceIn p (sourcesOf p ts mask start frame source) k)
   pub dummy : (k : ℕ) → k < 120 → carries p (k + 1) ≡ false
       → (passed (readTo p mask start ts source frame k) .number ≡ 0)
       × (getD (answersOf p ts mask start frame) k 0 ≡ DUMMY)
       × (getD (stuffsOf p ts mask start frame) k 0 ≡ noStuff)
+      × (getD (positionsOf p ts mask start frame) k 0 ≡ noPosition)
 
 abbrev pub FrameReadBySlots : Type 0
 FrameReadBySlots =
-    (p : Plan) (mask start : ℕ) (ts source frame answers stuff : List ℕ) → readFrameNumber p mask start ts (length source) (length frame) (length answers) (length stuff) ≡ 0
+    (p : Plan) (mask start : ℕ) (ts source frame answers stuff positions : List ℕ)
+    → readFrameNumber p mask start ts (length source) (length frame) (length answers) (length stuff) (length positions) ≡ 0
     → ReadBySlots p mask start ts source frame
 
 -- a TMCC block, there and back

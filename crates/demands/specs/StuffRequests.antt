@@ -68,7 +68,8 @@ NotTen n = n ≡ 10 → ⊥
 pub record NeverTen : Type 0 where
   pub slot : (s : FrameState) (t coded source : List ℕ) → NotTen (readAnswer s t coded source .number)
   pub packets : (s : FrameState) (t coded header packets : List ℕ) → NotTen (readPacketsAnswer s t coded header packets .number)
-  pub frame : (p : Plan) (mask start : ℕ) (ts : List ℕ) (source frame answers stuff : ℕ) → NotTen (readFrameNumber p mask start ts source frame answers stuff)
+  pub frame : (p : Plan) (mask start : ℕ) (ts : List ℕ) (source frame answers stuff positions : ℕ)
+      → NotTen (readFrameNumber p mask start ts source frame answers stuff positions)
   pub answer : (p : Plan) (ts : List ℕ) (mask start : ℕ) (frame : List ℕ) (k : ℕ) → k < 120 → NotTen (getD (answersOf p ts mask start frame) k 0)
   pub parity : (rate : ℕ) (t coded : List ℕ) → NotTen (checkNumber rate t coded)
   pub block : (mask start : ℕ) (t block source : List ℕ) → NotTen (readBlockNumber mask start t block source)

@@ -38,11 +38,11 @@ use Rattle.slot.specs.SlotLaws.{sizes, fits}
 use Rattle.slot.specs.declared.SlotRead.{SlotRead}
 use Rattle.slot.specs.Reading.{receivedNumber, stuffIn, stuffWith, sourceOf, checkedNumber}
 use Rattle.slot.specs.ReadingLaws.{stuff-below}
-use Rattle.slot.specs.Calls.{rowsAt, dataNumber, slotNumber, readNumber, readAnswer, readArea, formNumber, checkNumber}
+use Rattle.slot.specs.Calls.{rowsAt, dataNumber, slotNumber, readNumber, readAnswer, readArea, rateNumber, formNumber, checkNumber}
 use Rattle.slot.specs.CallLaws.{accepted-slot}
 use Rattle.stream.specs.SlotPackets.{headerOctets, rateAt, roomNumber, sourceArea, slotAnswer, readPacketsAnswer}
 use Rattle.tmcc.specs.Blocks.{sourceOctets as tmccOctets, blockShape}
-use Rattle.tmcc.specs.Calls.{lentNumber as blockLentNumber, readNumber as readBlockNumber}
+use Rattle.tmcc.specs.Calls.{settingsNumber, lentNumber as blockLentNumber, readNumber as readBlockNumber}
 use Rattle.frame.specs.Tables.{tablesOk}
 use Rattle.frame.specs.Steps.{tableAt, answerAt, stuffAt}
 use Rattle.frame.specs.Frames.{stateBefore, slotIn, sourceFrom, answersOf, wholeNumber, readFrameNumber}
@@ -147,10 +147,11 @@ packets-not-ten s t coded header packets =
     (slot-not-ten s t coded (sourceArea s))
     (then-each NotTen (data-not-ten s) (test long LENGTH (λ e. omega arith)))
 
-frame-not-ten : (p : Plan) (mask start : ℕ) (ts : List ℕ) (source frame answers stuff : ℕ) → NotTen (readFrameNumber p mask start ts source frame answers stuff)
+frame-not-ten : (p : Plan) (mask start : ℕ) (ts : List ℕ) (source frame answers stuff positions : ℕ)
+    → NotTen (readFrameNumber p mask start ts source frame answers stuff positions)
 unfolding readFrameNumber wholeNumber openNumber
-frame-not-ten p mask start ts source frame answers stuff =
-    let long = (eqb answers 120 && eqb stuff 120) && (eqb source (sourceFrom p 120) && eqb frame frameOctets) in
+frame-not-ten p mask start ts source frame answers stuff positions =
+    let long = (eqb answers 120 && eqb stuff 120 && eqb positions 120) && (eqb source (sourceFrom p 120) && eqb frame frameOctets) in
     then-each NotTen
     (then-each NotTen (plan-not-ten p) (test (settingsOk slotWidth mask start) REGISTER (λ e. omega arith)))
     (then-each NotTen (test long LENGTH (λ e. omega arith)) (test (tablesOk p ts) TABLE (λ e. omega arith)))
@@ -163,7 +164,7 @@ answer-not-ten p ts mask start frame k h =
     (pick-each NotTen (carries p (k + 1)) (word-not-ten (slotShape (rowsAt s)) (tableAt s ts) mask (s .register) (slotIn frame k)) (λ e. omega arith))
 
 check-not-ten : (rate : ℕ) (t coded : List ℕ) → NotTen (checkNumber rate t coded)
-unfolding checkNumber formNumber checkedNumber
+unfolding checkNumber rateNumber formNumber checkedNumber
 check-not-ten rate t coded =
     let F = slotShape (rowsOf rate) in
     then-each NotTen
@@ -172,7 +173,7 @@ check-not-ten rate t coded =
     (parity-not-ten F (wrongPosition F t coded))
 
 block-not-ten : (mask start : ℕ) (t block source : List ℕ) → NotTen (readBlockNumber mask start t block source)
-unfolding readBlockNumber blockLentNumber
+unfolding readBlockNumber blockLentNumber settingsNumber
 block-not-ten mask start t block source =
     then-each NotTen
     (then-each NotTen (test (settingsOk blockWidth mask start) REGISTER (λ e. omega arith)) (lent-not-ten blockShape tmccOctets t source block))

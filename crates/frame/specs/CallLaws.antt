@@ -57,12 +57,19 @@ module _ (p : Plan) (mask start : ℕ) (ts : List ℕ) (source frame : ℕ) wher
   unfolding frameNumber
   frame-yes = whole-yes
 
-  pub read-lent : (answers stuff : ℕ) → readFrameNumber p mask start ts source frame answers stuff ≡ 0 → (answers ≡ 120) × (stuff ≡ 120) × Lent p mask start ts source frame
+  pub read-lent : (answers stuff positions : ℕ) → readFrameNumber p mask start ts source frame answers stuff positions ≡ 0
+      → (answers ≡ 120) × (stuff ≡ 120) × (positions ≡ 120) × Lent p mask start ts source frame
   unfolding readFrameNumber
-  read-lent answers stuff h =
-      let a = whole-lent (eqb answers 120 && eqb stuff 120) h in
-      (eqb-true answers 120 (and-left (eqb answers 120) _ (a .0)), eqb-true stuff 120 (and-right (eqb answers 120) _ (a .0)), a .1)
+  read-lent answers stuff positions h =
+      let a = whole-lent (eqb answers 120 && eqb stuff 120 && eqb positions 120) h in
+      let b = and-left (eqb answers 120 && eqb stuff 120) _ (a .0) in (
+        eqb-true answers 120 (and-left (eqb answers 120) _ b),
+        eqb-true stuff 120 (and-right (eqb answers 120) _ b),
+        eqb-true positions 120 (and-right (eqb answers 120 && eqb stuff 120) _ (a .0)),
+        a .1,
+      )
 
-  pub read-yes : (answers stuff : ℕ) → answers ≡ 120 → stuff ≡ 120 → Lent p mask start ts source frame → readFrameNumber p mask start ts source frame answers stuff ≡ 0
+  pub read-yes : (answers stuff positions : ℕ) → answers ≡ 120 → stuff ≡ 120 → positions ≡ 120 → Lent p mask start ts source frame
+      → readFrameNumber p mask start ts source frame answers stuff positions ≡ 0
   unfolding readFrameNumber
-  read-yes answers stuff e d l = rw (eq-eqb answers 120 e, eq-eqb stuff 120 d) (whole-yes l)
+  read-yes answers stuff positions e d i l = rw (eq-eqb answers 120 e, eq-eqb stuff 120 d, eq-eqb positions 120 i) (whole-yes l)

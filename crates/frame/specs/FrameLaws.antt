@@ -29,9 +29,9 @@ use Rattle.slot.specs.Calls.{rowsAt}
 use Rattle.slot.specs.CallLaws.{rows-known}
 use Rattle.frame.specs.Tables.{tablesOk}
 use Rattle.frame.specs.TableLaws.{table-ok}
-use Rattle.frame.specs.Steps.{tableAt, codedAt, answerAt, stuffAt, readAt, stateAfter}
+use Rattle.frame.specs.Steps.{tableAt, codedAt, answerAt, stuffAt, positionAt, readAt, stateAfter}
 use Rattle.frame.specs.StepLaws.{length-coded, length-read}
-use Rattle.frame.specs.Frames.{rowsOfSlot, registerBefore, stateBefore, slotIn, octetsOfSlot, sourceFrom, sourceIn, frameOf, answersOf, stuffsOf, sourcesOf}
+use Rattle.frame.specs.Frames.{rowsOfSlot, registerBefore, stateBefore, slotIn, octetsOfSlot, sourceFrom, sourceIn, frameOf, answersOf, stuffsOf, positionsOf, sourcesOf}
 
 module _ (p : Plan) where
   pub sourceFrom-none : sourceFrom p 0 ≡ 0
@@ -164,6 +164,16 @@ pub stuff-at : (p : Plan) (ts : List ℕ) (mask start : ℕ) (frame : List ℕ) 
     → getD (stuffsOf p ts mask start frame) k 0 ≡ stuffAt (stateBefore p mask start k) ts (slotIn frame k)
 unfolding stuffsOf
 stuff-at p ts mask start frame k h = getD-table 120 _ k h
+
+-- and its failing position
+pub length-positionsOf : (p : Plan) (ts : List ℕ) (mask start : ℕ) (frame : List ℕ) → length (positionsOf p ts mask start frame) ≡ 120
+unfolding positionsOf
+length-positionsOf p ts mask start frame = length-table 120 _
+
+pub position-at : (p : Plan) (ts : List ℕ) (mask start : ℕ) (frame : List ℕ) (k : ℕ) → k < 120
+    → getD (positionsOf p ts mask start frame) k 0 ≡ positionAt (stateBefore p mask start k) ts (slotIn frame k)
+unfolding positionsOf
+position-at p ts mask start frame k h = getD-table 120 _ k h
 
 module _ (p : Plan) (ts : List ℕ) (mask start : ℕ) (frame found : List ℕ) (l : length found ≡ sourceFrom p 120) where
   sources : ℕ → List ℕ

@@ -18,7 +18,7 @@ use Rattle.plan.specs.Places.{groupAt, carries}
 use Rattle.plan.specs.States.{openNumber}
 use Rattle.slot.specs.Slots.{sourceOctets, registerAfter}
 use Rattle.frame.specs.Tables.{tablesOk}
-use Rattle.frame.specs.Steps.{codedAt, answerAt, stuffAt, readAt}
+use Rattle.frame.specs.Steps.{codedAt, answerAt, stuffAt, positionAt, readAt}
 
 -- the rows of slot s's parity table
 abbrev pub rowsOfSlot : Plan → ℕ → ℕ
@@ -62,6 +62,10 @@ answersOf p ts mask start frame = table 120 (λ k. answerAt (stateBefore p mask 
 unfoldable pub stuffsOf : Plan → List ℕ → ℕ → ℕ → List ℕ → List ℕ
 stuffsOf p ts mask start frame = table 120 (λ k. stuffAt (stateBefore p mask start k) ts (slotIn frame k))
 
+-- "Another lent list of 120 numbers of 16 bits takes them in the whole-frame call" (document 02, N7): the failing positions
+unfoldable pub positionsOf : Plan → List ℕ → ℕ → ℕ → List ℕ → List ℕ
+positionsOf p ts mask start frame = table 120 (λ k. positionAt (stateBefore p mask start k) ts (slotIn frame k))
+
 -- all header and data octets of a received frame, in an area with what was found in it
 unfoldable pub sourcesOf : Plan → List ℕ → ℕ → ℕ → List ℕ → List ℕ → List ℕ
 sourcesOf p ts mask start frame found =
@@ -79,7 +83,7 @@ wholeNumber p mask start ts source frame each =
 unfoldable pub frameNumber : Plan → ℕ → ℕ → List ℕ → ℕ → ℕ → ℕ
 frameNumber p mask start ts source frame = wholeNumber p mask start ts source frame true
 
--- reading has the answers and the stuff bits
-unfoldable pub readFrameNumber : Plan → ℕ → ℕ → List ℕ → ℕ → ℕ → ℕ → ℕ → ℕ
-readFrameNumber p mask start ts source frame answers stuff =
-    wholeNumber p mask start ts source frame (eqb answers 120 && eqb stuff 120)
+-- reading has the answers, the stuff bits and the failing positions
+unfoldable pub readFrameNumber : Plan → ℕ → ℕ → List ℕ → ℕ → ℕ → ℕ → ℕ → ℕ → ℕ
+readFrameNumber p mask start ts source frame answers stuff positions =
+    wholeNumber p mask start ts source frame (eqb answers 120 && eqb stuff 120 && eqb positions 120)

@@ -18,7 +18,7 @@ use Rattle.plan.specs.States.{opened, passNumber, passed}
 use Rattle.plan.specs.StateLaws.{Ready, pass-yes}
 use Rattle.slot.specs.Calls.{rowsAt, slotNumber, codeAnswer, codeArea, readNumber, readAnswer, readArea}
 use Rattle.slot.specs.CallLaws.{slot-yes}
-use Rattle.frame.specs.Steps.{tableAt, codedAt, answerAt, stuffAt, readAt, stateAfter}
+use Rattle.frame.specs.Steps.{tableAt, codedAt, answerAt, stuffAt, positionAt, readAt, stateAfter}
 use Rattle.frame.specs.StepLaws.{coded-data, answer-data, after-data, after-dummy}
 use Rattle.frame.specs.Frames.{stateBefore, slotIn, sourceIn}
 use Rattle.frame.specs.FrameLaws.{at, first-state, state-more, state-ready, data-long, length-slotIn}
@@ -43,8 +43,9 @@ module _ (s : FrameState) (ts source coded : List ℕ) (n : slotNumber s (tableA
       (readAnswer s (tableAt s ts) coded source .number ≡ answerAt s ts coded)
       × (readAnswer s (tableAt s ts) coded source .state ≡ stateAfter s)
       × (readAnswer s (tableAt s ts) coded source .stuff ≡ stuffAt s ts coded)
-  unfolding readAnswer stuffAt
-  read-answer = (read-number, rw (eq-eqb _ 0 n) (sym (after-data s ts c)), rw read-number)
+      × (readAnswer s (tableAt s ts) coded source .position ≡ positionAt s ts coded)
+  unfolding readAnswer stuffAt positionAt
+  read-answer = (read-number, rw (eq-eqb _ 0 n) (sym (after-data s ts c)), rw read-number, rw read-number)
 
   pub read-area : readArea s (tableAt s ts) coded source ≡ readAt s ts coded source
   unfolding readArea readAt

@@ -12,12 +12,13 @@ use Rattle.plan.specs.declared.FrameState.{FrameState}
 use Rattle.plan.specs.Sizes.{slotOctets}
 use Rattle.plan.specs.Places.{carries}
 use Rattle.plan.specs.States.{movedOn}
+use Rattle.codeword.specs.Reading.{noPosition}
 use Rattle.slot.specs.Slots.{sourceOctets, slotOf}
 use Rattle.slot.specs.SlotLaws.{length-slotOf}
 use Rattle.slot.specs.Reading.{receivedNumber, noStuff, sourceOf}
 use Rattle.slot.specs.ReadingLaws.{sourceOf-source}
 use Rattle.slot.specs.Calls.{rowsAt, nextState}
-use Rattle.frame.specs.Steps.{tableAt, codedAt, answerAt, stuffAt, readAt, stateAfter}
+use Rattle.frame.specs.Steps.{tableAt, codedAt, answerAt, stuffAt, positionAt, readAt, stateAfter}
 
 module _ (s : FrameState) (ts : List ℕ) where
   -- a data slot
@@ -47,6 +48,10 @@ module _ (s : FrameState) (ts : List ℕ) where
     pub stuff-dummy : (received : List ℕ) → stuffAt s ts received ≡ noStuff
     unfolding stuffAt
     stuff-dummy received = rw (answer-dummy received)
+
+    pub position-dummy : (received : List ℕ) → positionAt s ts received ≡ noPosition
+    unfolding positionAt
+    position-dummy received = rw (answer-dummy received)
 
     pub read-dummy : (received found : List ℕ) → readAt s ts received found ≡ found
     unfolding readAt

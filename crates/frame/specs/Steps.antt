@@ -9,8 +9,9 @@ use Rattle.plan.specs.Records.{planIn}
 use Rattle.plan.specs.declared.FrameState.{FrameState}
 use Rattle.plan.specs.Places.{groupAt, carries}
 use Rattle.plan.specs.States.{movedOn}
+use Rattle.codeword.specs.Reading.{positionWith}
 use Rattle.slot.specs.Slots.{slotOf}
-use Rattle.slot.specs.Reading.{receivedNumber, stuffIn, stuffWith, sourceOf}
+use Rattle.slot.specs.Reading.{receivedNumber, stuffIn, stuffWith, sourceOf, failingIn}
 use Rattle.slot.specs.Calls.{rowsAt, nextState}
 use Rattle.frame.specs.Tables.{tableOf}
 
@@ -29,6 +30,10 @@ answerAt s ts received = pick (carries (planIn s) (s .slot)) (receivedNumber (ro
 -- its stuff bits, "255 where the slot's answer isn't 0" (document 02, N5)
 unfoldable pub stuffAt : FrameState → List ℕ → List ℕ → ℕ
 stuffAt s ts received = stuffWith (answerAt s ts received) (stuffIn (rowsAt s) (s .mask) (s .register) received)
+
+-- its lowest failing parity position, "65535 where the slot's answer isn't 8" (document 02, N7)
+unfoldable pub positionAt : FrameState → List ℕ → List ℕ → ℕ
+positionAt s ts received = positionWith (answerAt s ts received) (failingIn (rowsAt s) (tableAt s ts) received)
 
 -- its header and data octets as read; with 8 or 9 they "stay untouched", and a dummy has none
 unfoldable pub readAt : FrameState → List ℕ → List ℕ → List ℕ → List ℕ

@@ -14,7 +14,8 @@ pub record Reading (s : FrameState) (ts ends received source : List ℕ) : Type 
   pub received-long : length received ≡ slotOctets
 
 -- all that reading a frame's slots is lent
-pub record Answering (p : Plan) (mask start : ℕ) (ts ends source frame answers stuff : List ℕ) : Type 0 where
+pub record Answering (p : Plan) (mask start : ℕ) (ts ends source frame answers stuff positions : List ℕ) : Type 0 where
   pub framed : Framed p mask start ts ends source frame
   pub answers-long : length answers ≡ 120
   pub stuff-long : length stuff ≡ 120
+  pub positions-long : length positions ≡ 120

@@ -66,6 +66,17 @@ module _ (rows : ℕ) (t u received : List ℕ) where
   lowestWrong-before j h =
       alike (getD (parityOf rows t u) j 0) (getD received j 0) (first-first (positions rows) (λ j. not (eqb (getD (parityOf rows t u) j 0) (getD received j 0))) .before j h)
 
+  -- and the one at the answer, where it is no M, is wrong
+  pub lowestWrong-there : lowestWrong rows t u received < positions rows
+      → getD (parityOf rows t u) (lowestWrong rows t u received) 0 ≡ getD received (lowestWrong rows t u received) 0 → ⊥
+  unfolding lowestWrong
+  lowestWrong-there h e =
+      clash _ (ap not (eq-eqb _ _ e)) (first-first (positions rows) (λ j. not (eqb (getD (parityOf rows t u) j 0) (getD received j 0))) .there h)
+
+  pub lowestWrong-within : lowestWrong rows t u received ≤ positions rows
+  unfolding lowestWrong
+  lowestWrong-within = first-first (positions rows) (λ j. not (eqb (getD (parityOf rows t u) j 0) (getD received j 0))) .within
+
   -- the check answers M exactly when the received parity is the parity
   pub lowestWrong-none : length received ≡ positions rows → lowestWrong rows t u received ≡ positions rows ↔ received ≡ parityOf rows t u
   lowestWrong-none l = (

@@ -1,10 +1,9 @@
 // Calls on one slot.
-ghost use mathlib.Core.Path.{_≡_};
-ghost use Rattle.slot.specs.Calls.{checkNumber};
 ghost use Rattle.plan.specs.Records.{stateAt};
 ghost use Rattle.c_boundary.specs.Plans.{planOf};
 ghost use Rattle.c_boundary.specs.Calls.{Coded, Received};
 ghost use Rattle.c_slots.specs.PacketCalls.{CodedPackets, ReceivedPackets};
+ghost use Rattle.c_checks.specs.Calls.{Checked};
 
 // Codes header and data octets into the next slot; a refusal leaves the slot and `next` as they were.
 #[no_mangle]
@@ -128,10 +127,15 @@ pub extern "C" fn s3_read_packets(
     )
 }
 
-// Checks the parity of a slot of a rate, whatever its dispersal.
+// Checks the parity of a slot of a rate, whatever its dispersal, and puts where it broke into `position`.
 #[no_mangle]
-pub extern "C" fn s3_check_parity(rate: u32, table: &[u16], coded: &[u8]) -> u32
-    ensures { λ r. ⌜ r ≡ checkNumber rate (now (table .entry)) (now (coded .entry)) ⌝ }
+pub extern "C" fn s3_check_parity(
+    rate: u32,
+    table: &[u16],
+    coded: &[u8],
+    position: &mut [u16],
+) -> u32
+    ensures { λ r. ⌜ Checked rate (now (table .entry)) (now (coded .entry)) (now (position .entry)) r (now (position .exit)) ⌝ }
 {
-    c_boundary::word(slot_check::check_parity(c_boundary::narrow(rate), table, coded))
+    c_checks::check_parity(rate, table, coded, position)
 }

@@ -16,10 +16,12 @@ use Rattle.plan.specs.Sizes.{slotOctets}
 use Rattle.plan.specs.Plans.{rateOf}
 use Rattle.plan.specs.Places.{groupAt, carries}
 use Rattle.plan.specs.States.{movedOn, answer, stateNumber}
+use Rattle.codeword.specs.declared.WordAnswer.{WordAnswer}
 use Rattle.codeword.specs.Calls.{lentNumber as wordLentNumber}
+use Rattle.codeword.specs.Reading.{positionWith, wordAnswer}
 use Rattle.slot.specs.Slots.{sourceOctets, slotShape, slotOf, registerAfter}
 use Rattle.slot.specs.declared.SlotRead.{SlotRead}
-use Rattle.slot.specs.Reading.{receivedNumber, stuffIn, stuffWith, stuffOnes, withOnes, sourceOf, checkedNumber}
+use Rattle.slot.specs.Reading.{receivedNumber, stuffIn, stuffWith, stuffOnes, withOnes, sourceOf, failingIn, checkedNumber}
 
 -- the rows of the parity table at the place of the state's next slot
 unfoldable pub rowsAt : FrameState → ℕ
@@ -54,29 +56,38 @@ readNumber s t coded source =
     andThen (slotNumber s t source coded) (receivedNumber (rowsAt s) t (s .mask) (s .register) coded)
 
 -- reading a slot: "8, 9 .. move the slot reader on one place with the register stepped as for a good slot"; with its stuff bits
--- (document 02, N5)
+-- (document 02, N5) and where its parity broke (N7)
 unfoldable pub readAnswer : FrameState → List ℕ → List ℕ → List ℕ → SlotRead
 readAnswer s t coded source =
     record {
       number = readNumber s t coded source;
       state = pick (eqb (slotNumber s t source coded) 0) (nextState s) s;
       stuff = stuffWith (readNumber s t coded source) (stuffIn (rowsAt s) (s .mask) (s .register) coded);
+      position = positionWith (readNumber s t coded source) (failingIn (rowsAt s) t coded);
     }
 
 unfoldable pub readArea : FrameState → List ℕ → List ℕ → List ℕ → List ℕ
 readArea s t coded source =
     pick (eqb (readNumber s t coded source) 0) (sourceOf (rowsAt s) (s .mask) (s .register) coded) source
 
--- "Lone parity check: 1, 4, 5": what is tested before the parity
+-- "Lone parity check: 1"
+unfoldable pub rateNumber : ℕ → ℕ
+rateNumber rate = pick (rateOk rate) 0 PLAN
+
+-- ", 4, 5": what is tested before the parity
 unfoldable pub formNumber : ℕ → List ℕ → List ℕ → ℕ
 formNumber rate t coded =
-    andThen (pick (rateOk rate) 0 PLAN)
+    andThen (rateNumber rate)
     (andThen (pick (eqb (length coded) slotOctets) 0 LENGTH)
     (pick (tableOk (rowsOf rate) t) 0 TABLE))
 
 -- "Lone parity check: 1, 4, 5, 8"
 unfoldable pub checkNumber : ℕ → List ℕ → List ℕ → ℕ
 checkNumber rate t coded = andThen (formNumber rate t coded) (checkedNumber (rowsOf rate) t coded)
+
+-- with where the parity broke (document 02, N7)
+unfoldable pub checkAnswer : ℕ → List ℕ → List ℕ → WordAnswer
+checkAnswer rate t coded = wordAnswer (checkNumber rate t coded) (failingIn (rowsOf rate) t coded)
 
 -- that a reading answers 0 with this state and these stuff bits, and leaves these octets in its area
 pub record Reads (a : SlotRead) (area : List ℕ) (next : FrameState) (stuff : ℕ) (octets : List ℕ) : Type 0 where

@@ -5,5 +5,6 @@ pub mod ReadingLaws
 pub mod Calls
 pub mod CallLaws
 pub mod RoundTrips
+pub mod PositionLaws
 pub mod DemandThree
 pub mod Areas

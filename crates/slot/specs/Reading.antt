@@ -1,15 +1,15 @@
--- A received slot, read (document 01, "Refusal list", as document 02, N5, amends it): 8 and 9 in this order, and the stuff bits.
-use mathlib.Core.Path.{_≡_}
+-- A received slot, read (document 01, "Refusal list", as document 02, N5 and N7, amends it): 8 and 9 in this order, the stuff
+-- bits, and where parity broke.
 use mathlib.Core.List.{List}
-use mathlib.Core.Logic.{_⊎_}
 use Prim.Native.Nat.{ℕ}
 use lib.Dec.{eqb}
 use lib.ListN.{take, drop}
 use Rattle.lists.specs.Choice.{pick}
-use Rattle.refusal.specs.Numbers.{PARITY, BCH}
 use Rattle.bits.specs.Digits.{number}
 use Rattle.bits.specs.Octets.{bitsOf, octetsOf}
-use Rattle.codeword.specs.Reading.{takenOff, messageIn, tailIn, wrongPosition, parityNumber, wordNumber, withTail}
+use Rattle.codeword.specs.Reading.{takenOff, messageIn, tailIn, wrongPosition, parityNumber, noPosition, wordNumber, OfWord, withTail}
+use Rattle.plan.specs.declared.FrameState.{FrameState}
+use Rattle.slot.specs.declared.SlotRead.{SlotRead}
 use Rattle.slot.specs.Slots.{sourceOctets, coveredBits, stuffBits, slotShape}
 
 -- "The bits before the parity are the first 374 × R of a slot, as sent", and "the last M bits"
@@ -35,6 +35,10 @@ noStuff = 255
 abbrev pub stuffWith : ℕ → ℕ → ℕ
 stuffWith n x = pick (eqb n 0) x noStuff
 
+-- an answer that has neither stuff bits nor a failing position
+abbrev pub notRead : ℕ → FrameState → SlotRead
+notRead n s = record { number = n; state = s; stuff = noStuff; position = noPosition }
+
 -- six ones: "the same slot only where that number is 63"
 abbrev pub stuffOnes : ℕ
 stuffOnes = 63
@@ -47,10 +51,14 @@ withOnes R t mask r c = withTail (slotShape R) t mask r c stuffBits
 unfoldable pub sourceOf : ℕ → ℕ → ℕ → List ℕ → List ℕ
 sourceOf R mask r c = octetsOf (sourceOctets R) (messageIn (slotShape R) (takenOff (slotShape R) mask r c))
 
+-- "the lowest failing parity position" (document 02, N7), or M
+unfoldable pub failingIn : ℕ → List ℕ → List ℕ → ℕ
+failingIn R t c = wrongPosition (slotShape R) t c
+
 -- 8 alone, whatever the slot's dispersal
 unfoldable pub checkedNumber : ℕ → List ℕ → List ℕ → ℕ
 checkedNumber R t c = parityNumber (slotShape R) (wrongPosition (slotShape R) t c)
 
 -- the numbers with which a reading moves on: 0, and "8, 9 .. move the slot reader on one place"
 abbrev pub MovesOn : ℕ → Type 0
-MovesOn n = (n ≡ 0) ⊎ (n ≡ PARITY) ⊎ (n ≡ BCH)
+MovesOn n = OfWord n

@@ -1,35 +1,25 @@
 -- Coding and then reading a slot, and reading and then coding one: over the definitions of a slot, and over the calls
 -- with their numbers, states and areas. Reading answers 0 exactly when both checks hold. The state after a slot is
 -- the same whether it was coded or read, read well or not, and it is sound for the next call.
-use mathlib.Core.Path.{_≡_, refl, sym, ap, _∙_}
-use mathlib.Core.Bool.{Bool, true, false, _&&_, _||_, false≢true}
+use mathlib.Core.Path.{_≡_, sym, ap, _∙_}
 use mathlib.Core.List.{List}
-use mathlib.Core.Logic.{_↔_, inl, inr}
+use mathlib.Core.Logic.{_↔_, inl}
 use Prim.Native.Nat.{ℕ}
-use native.Mathlib.Decide.{ℕ-discrete}
 use native.Mathlib.Omega.{arith}
 use borrow.Author.Tests.{eq-eqb}
-use lib.Dec.{eqb, leb, ltb}
 use lib.ListN.{length}
 use Rattle.lists.specs.Runs.{Octets}
 use Rattle.lists.specs.Choice.{pick, andThen}
-use Rattle.lists.specs.ChoiceLaws.{pick-each, then-each, then-zero, then-next, then-first, then-both}
-use Rattle.refusal.specs.Numbers.{PLAN, DUMMY, FULL, LENGTH, TABLE, REGISTER, PARITY, BCH, VALUE, ORDER, TOTAL}
+use Rattle.lists.specs.ChoiceLaws.{then-zero, then-next, then-both}
 use Rattle.bits.specs.Octets.{bitsOf}
 use Rattle.bits.specs.OctetLaws.{octets-bits}
-use Rattle.dispersal.specs.Register.{registerOk, settingsOk}
 use Rattle.dispersal.specs.RegisterLaws.{after-ok}
-use Rattle.parity_table.specs.Tables.{tableOk}
-use Rattle.plan.specs.Records.{planIn}
 use Rattle.plan.specs.RateLaws.{Rows}
 use Rattle.plan.specs.declared.FrameState.{FrameState}
-use Rattle.plan.specs.PlanLaws.{plan-each}
-use Rattle.plan.specs.Places.{carries}
-use Rattle.plan.specs.Sizes.{slotOctets, slotWidth}
-use Rattle.plan.specs.States.{soundNumber, stateNumber}
+use Rattle.plan.specs.Sizes.{slotWidth}
+use Rattle.plan.specs.States.{soundNumber}
 use Rattle.plan.specs.StateLaws.{sound-yes, moved-sound}
-use Rattle.codeword.specs.Calls.{lentNumber as wordLentNumber}
-use Rattle.codeword.specs.CallLaws.{lent-lengths}
+use Rattle.codeword.specs.CallLaws.{lent-lengths, earlier-none}
 use Rattle.codeword.specs.WordLaws.{Message}
 use Rattle.codeword.specs.Reading.{takenOff, messageIn, Good}
 use Rattle.codeword.specs.ReadingLaws.{Received}
@@ -39,7 +29,7 @@ use Rattle.slot.specs.SlotLaws.{Source, fits, message, length-slotOf}
 use Rattle.slot.specs.Reading.{receivedNumber, stuffIn, stuffOnes, sourceOf, MovesOn}
 use Rattle.slot.specs.ReadingLaws.{stuff-ones, received-numbers, received-good, sourceOf-source, sourceOf-bits}
 use Rattle.slot.specs.Calls.{rowsAt, dataNumber, slotNumber, nextState, codeAnswer, codeArea, readNumber, readAnswer, readArea, Reads, CodedAgain, CodedBack}
-use Rattle.slot.specs.CallLaws.{accepted-slot}
+use Rattle.slot.specs.CallLaws.{accepted-slot, slot-earlier}
 
 -- that reading the slot c answers 0 and gives these header and data octets, and stuff bits of ones
 pub record ReadsAs (R : ℕ) (t : List ℕ) (mask r : ℕ) (c octets : List ℕ) : Type 0 where
@@ -89,60 +79,15 @@ read-good s t coded source h =
     rw (then-next (slotNumber s t source coded) (receivedNumber (rowsAt s) t (s .mask) (s .register) coded) h)
     (received-good (rowsAt s) t (s .mask) (s .register) coded (a .place .rows) (a .areas .coded-long))
 
--- the numbers tested before the slot itself is read are neither 8 nor 9
-abbrev Earlier : ℕ → Type 0
-Earlier n = MovesOn n → n ≡ 0
-
--- below 8 or above 9
-abbrev beside : ℕ → Bool
-beside n = ltb n PARITY || ltb BCH n
-
-earlier : (n : ℕ) → beside n ≡ true → Earlier n
-earlier n h (inl e) = e
-earlier n h (inr (inl e)) = absurd (false≢true (rw e at h))
-earlier n h (inr (inr e)) = absurd (false≢true (rw e at h))
-
-earlier-then : {a b : ℕ} → Earlier a → Earlier b → Earlier (andThen a b)
-earlier-then = then-each Earlier
-
-earlier-test : (b : Bool) (n : ℕ) → beside n ≡ true → Earlier (pick b 0 n)
-earlier-test b n h = pick-each Earlier b (earlier 0 refl) (earlier n h)
-
-state-earlier : (s : FrameState) → Earlier (stateNumber s)
-unfolding stateNumber soundNumber
-state-earlier s =
-    earlier-then
-    (earlier-then (pick-each Earlier (eqb (s .slot) 0) (earlier PLAN refl) (earlier 0 refl))
-    (earlier-then (plan-each Earlier (earlier 0 refl) (earlier PLAN refl) (earlier VALUE refl) (earlier ORDER refl) (earlier TOTAL refl) (planIn s))
-    (earlier-test (settingsOk slotWidth (s .mask) (s .start) && registerOk slotWidth (s .register)) REGISTER refl)))
-    (earlier-test (leb (s .slot) 120) FULL refl)
-
-slot-earlier : (s : FrameState) (t source coded : List ℕ) → Earlier (slotNumber s t source coded)
-unfolding slotNumber dataNumber wordLentNumber
-slot-earlier s t source coded =
-    earlier-then
-    (earlier-then (state-earlier s) (earlier-test (carries (planIn s) (s .slot)) DUMMY refl))
-    (earlier-then
-    (earlier-test (eqb (length source) (sourceOctets (rowsAt s)) && eqb (length coded) slotOctets) LENGTH refl)
-    (earlier-test (tableOk (rowsAt s) t) TABLE refl))
-
 -- a reading that moves on is one that was refused for nothing before the slot itself was read
 pub read-moves : (s : FrameState) (t coded source : List ℕ) → MovesOn (readAnswer s t coded source .number) ↔ (slotNumber s t source coded ≡ 0)
 unfolding readAnswer readNumber
-read-moves s t coded source = (there (ℕ-discrete n 0), back)
-  where
-    n : ℕ
-    n = slotNumber s t source coded
-
-    found : ℕ
-    found = receivedNumber (rowsAt s) t (s .mask) (s .register) coded
-
-    there : Dec (n ≡ 0) → MovesOn (andThen n found) → n ≡ 0
-    there (yes e) m = e
-    there (no d) m = slot-earlier s t source coded (rw (then-first n found d) at m)
-
-    back : n ≡ 0 → MovesOn (andThen n found)
-    back e = rw (then-next n found e) (received-numbers (rowsAt s) t (s .mask) (s .register) coded)
+read-moves s t coded source =
+    let n = slotNumber s t source coded in
+    let found = receivedNumber (rowsAt s) t (s .mask) (s .register) coded in (
+      earlier-none n found (slot-earlier s t source coded),
+      (λ e. rw (then-next n found e) (received-numbers (rowsAt s) t (s .mask) (s .register) coded)),
+    )
 
 -- the state after a slot: one place on, with the register stepped over what is dispersed
 pub coded-state : (s : FrameState) (t source coded : List ℕ) → codeAnswer s t source coded .number ≡ 0 → codeAnswer s t source coded .state ≡ nextState s

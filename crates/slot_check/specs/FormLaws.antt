@@ -1,5 +1,5 @@
--- What a number 0 says of what the lone check is lent.
-use mathlib.Core.Path.{_≡_}
+-- Laws of the lone check: what a number 0 says of what it is lent, and its answer where the form is refused and where it is not.
+use mathlib.Core.Path.{_≡_, ap, _∙_}
 use mathlib.Core.Bool.{true}
 use mathlib.Core.List.{List}
 use Prim.Native.Nat.{ℕ}
@@ -8,12 +8,17 @@ use lib.Dec.{eqb}
 use lib.ListN.{length}
 use borrow.Author.Tests.{eqb-true}
 use Rattle.lists.specs.Choice.{pick}
-use Rattle.lists.specs.ChoiceLaws.{then-zero, not-refused}
+use Rattle.lists.specs.ChoiceLaws.{then-zero, then-first, then-next, not-refused}
 use Rattle.refusal.specs.Numbers.{PLAN, LENGTH, TABLE}
 use Rattle.parity_table.specs.Tables.{tableOk}
 use Rattle.plan.specs.Rates.{rateOk, rowsOf}
 use Rattle.plan.specs.Sizes.{slotOctets}
-use Rattle.slot.specs.Calls.{formNumber}
+use Rattle.codeword.specs.declared.WordAnswer.{WordAnswer}
+use Rattle.codeword.specs.CallLaws.{earlier-position}
+use Rattle.codeword.specs.Reading.{noPosition, wordAnswer}
+use Rattle.slot.specs.Reading.{failingIn, checkedNumber}
+use Rattle.slot.specs.Calls.{rateNumber, formNumber, checkNumber, checkAnswer}
+use Rattle.slot.specs.CallLaws.{form-earlier}
 
 -- what a number 0 says of the rate, the slot and the table
 pub record Formed (rate : ℕ) (t c : List ℕ) : Type 0 where
@@ -22,12 +27,29 @@ pub record Formed (rate : ℕ) (t c : List ℕ) : Type 0 where
   pub table : tableOk (rowsOf rate) t ≡ true
 
 pub formed : (rate : ℕ) (t c : List ℕ) → formNumber rate t c ≡ 0 → Formed rate t c
-unfolding formNumber
+unfolding formNumber rateNumber
 formed rate t c h =
-    let a = then-zero (pick (rateOk rate) 0 PLAN) _ h in
+    let a = then-zero (rateNumber rate) _ h in
     let b = then-zero (pick (eqb (length c) slotOctets) 0 LENGTH) _ (a .1) in
     record {
       rate-known = not-refused (rateOk rate) PLAN (omega arith) (a .0);
       whole = eqb-true (length c) slotOctets (not-refused (eqb (length c) slotOctets) LENGTH (omega arith) (b .0));
       table = not-refused (tableOk (rowsOf rate) t) TABLE (omega arith) (b .1);
     }
+
+-- the answer of a slot whose form is right: 8 alone, and where the parity broke
+abbrev pub checkedAnswer : ℕ → List ℕ → List ℕ → WordAnswer
+checkedAnswer R t c = wordAnswer (checkedNumber R t c) (failingIn R t c)
+
+module _ (rate : ℕ) (t c : List ℕ) where
+  pub check-refused : (formNumber rate t c ≡ 0 → ⊥) → checkAnswer rate t c ≡ record { number = formNumber rate t c; position = noPosition }
+  unfolding checkAnswer checkNumber
+  check-refused h =
+      let n = formNumber rate t c in
+      let p = failingIn (rowsOf rate) t c in
+      ap (λ (m : ℕ). wordAnswer m p) (then-first n _ h)
+      ∙ ap (λ (x : ℕ). record { number = n; position = x }) (earlier-position n p (form-earlier rate t c) h)
+
+  pub check-looked : formNumber rate t c ≡ 0 → checkAnswer rate t c ≡ checkedAnswer (rowsOf rate) t c
+  unfolding checkAnswer checkNumber
+  check-looked h = ap (λ (m : ℕ). wordAnswer m (failingIn (rowsOf rate) t c)) (then-next (formNumber rate t c) _ h)

@@ -1,15 +1,27 @@
 // The lone parity check.
 ghost use mathlib.Core.Path.{_≡_};
-ghost use Rattle.slot.specs.Reading.{checkedNumber};
-ghost use Rattle.slot.specs.Calls.{formNumber, checkNumber};
+ghost use Rattle.slot.specs.Calls.{rateNumber, formNumber, checkAnswer};
 ghost use Rattle.slot.specs.Areas.{Checked};
+ghost use Rattle.slot_check.specs.FormLaws.{checkedAnswer};
+use codeword::WordAnswer;
+
+// The refusal of the rate, or 0.
+pub fn rate_number(rate: u16) -> u8
+    ensures { λ r. ⌜ r ≡ rateNumber rate ⌝ }
+{
+    if plan::known(rate, plan::RATES) {
+        return 0;
+    }
+    refusal::PLAN
+}
 
 // The refusal of the rate, of the slot's length or of the table, or 0.
 fn form_number(rate: u16, table: &[u16], coded: &[u8]) -> u8
     ensures { λ r. ⌜ r ≡ formNumber rate (now (table .entry)) (now (coded .entry)) ⌝ }
 {
-    if !plan::known(rate, plan::RATES) {
-        return refusal::PLAN;
+    let number = rate_number(rate);
+    if number != 0 {
+        return number;
     }
     if coded.len() != plan::SLOT_OCTETS {
         return refusal::LENGTH;
@@ -20,17 +32,17 @@ fn form_number(rate: u16, table: &[u16], coded: &[u8]) -> u8
     refusal::TABLE
 }
 
-// The refusal of a received slot for its parity, or 0. The areas hold the slot's bits, its parity input and its sums.
-fn checked_number(
+// The answer of a received slot whose parity is checked. The areas hold the slot's bits, its parity input and its sums.
+fn checked(
     rows: usize,
     table: &[u16],
     coded: &[u8],
     bits: &mut [u8],
     input: &mut [u8],
     sums: &mut [u8],
-) -> u8
+) -> WordAnswer
     requires { ⌜ Checked rows (now table) (now coded) (now bits) (now input) (now sums) ⌝ }
-    ensures { λ r. ⌜ r ≡ checkedNumber rows (now (table .entry)) (now (coded .entry)) ⌝ }
+    ensures { λ r. ⌜ r ≡ checkedAnswer rows (now (table .entry)) (now (coded .entry)) ⌝ }
 {
     let shape = slot::shape(rows);
     let end = 374 * rows;
@@ -43,21 +55,28 @@ fn checked_number(
         &mut input[0..end],
         &mut sums[0..positions],
     );
-    word_reader::parity_number(shape, wrong)
+    let number = word_reader::parity_number(shape, wrong);
+    WordAnswer {
+        number,
+        position: codeword::position_with(number, wrong),
+    }
 }
 
-// Checks the parity of a slot of a rate, whatever its dispersal.
-pub fn check_parity(rate: u16, table: &[u16], coded: &[u8]) -> u8
-    ensures { λ r. ⌜ r ≡ checkNumber rate (now (table .entry)) (now (coded .entry)) ⌝ }
+// Checks the parity of a slot of a rate, whatever its dispersal: its number, and where it broke.
+pub fn check_parity(rate: u16, table: &[u16], coded: &[u8]) -> WordAnswer
+    ensures { λ r. ⌜ r ≡ checkAnswer rate (now (table .entry)) (now (coded .entry)) ⌝ }
 {
     let number = form_number(rate, table, coded);
     if number != 0 {
-        return number;
+        return WordAnswer {
+            number,
+            position: codeword::NO_POSITION,
+        };
     }
     let mut bits = [0u8; plan::SLOT_BITS];
     let mut input = [0u8; plan::SLOT_BITS];
     let mut sums = [0u8; plan::MOST_PARITY];
-    checked_number(
+    checked(
         plan::rows(rate),
         table,
         coded,

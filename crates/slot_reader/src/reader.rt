@@ -6,18 +6,15 @@ use plan::FrameState;
 use slot::SlotRead;
 
 // Reads the slot at the state's place: header and data octets, the state one place on, and the stuff bits. A slot that is
-// refused for its parity or BCH bits leaves the octets as they were, and the state moves on all the same.
+// refused for its parity or BCH bits leaves the octets as they were, and the state moves on all the same; with its parity's
+// refusal comes the lowest failing parity position.
 pub fn read_slot(state: FrameState, table: &[u16], coded: &[u8], source: &mut [u8]) -> SlotRead
     ensures { λ r. ⌜ r ≡ readAnswer state (now (table .entry)) (now (coded .entry)) (now (source .entry)) ⌝ }
     ensures { λ _. ⌜ now (source .exit) ≡ readArea state (now (table .entry)) (now (coded .entry)) (now (source .entry)) ⌝ }
 {
     let number = slot::slot_number(state, table, source, coded);
     if number != 0 {
-        return SlotRead {
-            number,
-            state,
-            stuff: slot::NO_STUFF,
-        };
+        return slot::not_read(number, state);
     }
     let mut bits = [0u8; plan::SLOT_BITS];
     let mut input = [0u8; plan::SLOT_BITS];
@@ -39,5 +36,6 @@ pub fn read_slot(state: FrameState, table: &[u16], coded: &[u8], source: &mut [u
         number: found.number,
         state: next,
         stuff: found.stuff,
+        position: found.position,
     }
 }

@@ -8,11 +8,13 @@ ghost use Rattle.slot.specs.Slots.{sourceOctets, slotShape};
 ghost use Rattle.slot_reader.specs.Needs.{Taken, Held, Readable, ReadOf};
 use word_reader::WordRead;
 
-// A received slot, read: the refusal of its parity or BCH bits, or 0, the register after it, and its stuff bits.
+// A received slot, read: the refusal of its parity or BCH bits, or 0, the register after it, its stuff bits, and the failing
+// position told beside the number.
 pub struct Found {
     pub number: u8,
     pub register: u32,
     pub stuff: u8,
+    pub position: u16,
 }
 
 // Header and data octets of the bits with dispersal taken off; their stuff bits as a number.
@@ -39,7 +41,7 @@ fn read_codeword(
     sums: &mut [u8],
 ) -> WordRead
     requires { ⌜ Held rows register (now table) (now coded) (now bits) (now input) (now sums) ⌝ }
-    ensures { λ r. ⌜ ReadWord (slotShape rows) (now (table .entry)) mask register (now (coded .entry)) (r .number) (r .register) (now (bits .exit)) ⌝ }
+    ensures { λ r. ⌜ ReadWord (slotShape rows) (now (table .entry)) mask register (now (coded .entry)) (r .number) (r .position) (r .register) (now (bits .exit)) ⌝ }
 {
     let end = 374 * rows;
     let positions = 374 * (120 - rows);
@@ -55,7 +57,8 @@ fn read_codeword(
     )
 }
 
-// A slot read: its number, the register after it, and header and data octets and stuff bits where the number is 0.
+// A slot read: its number with the position told beside it, the register after it, and header and data octets and stuff bits
+// where the number is 0.
 pub fn read(
     rows: usize,
     table: &[u16],
@@ -68,7 +71,7 @@ pub fn read(
     source: &mut [u8],
 ) -> Found
     requires { ⌜ Readable rows register (now table) (now coded) (now bits) (now input) (now sums) (now source) ⌝ }
-    ensures { λ r. ⌜ ReadOf rows (now (table .entry)) mask register (now (coded .entry)) (now (source .entry)) (r .number) (r .register) (r .stuff) (now (source .exit)) ⌝ }
+    ensures { λ r. ⌜ ReadOf rows (now (table .entry)) mask register (now (coded .entry)) (now (source .entry)) (r .number) (r .register) (r .stuff) (r .position) (now (source .exit)) ⌝ }
 {
     let run = codeword::run_bits(slot::shape(rows));
     let word = read_codeword(rows, table, mask, register, coded, bits, input, sums);
@@ -77,6 +80,7 @@ pub fn read(
             number: word.number,
             register: word.register,
             stuff: slot::NO_STUFF,
+            position: word.position,
         };
     }
     let stuff = take_source(rows, &bits[0..run], source);
@@ -84,5 +88,6 @@ pub fn read(
         number: 0,
         register: word.register,
         stuff,
+        position: word.position,
     }
 }

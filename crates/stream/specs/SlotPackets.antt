@@ -17,7 +17,7 @@ use Rattle.plan.specs.Places.{groupAt}
 use Rattle.packets.specs.Packets.{packed, unpacked, packNumber}
 use Rattle.slot.specs.Slots.{sourceOctets}
 use Rattle.slot.specs.declared.SlotRead.{SlotRead}
-use Rattle.slot.specs.Reading.{noStuff, sourceOf}
+use Rattle.slot.specs.Reading.{notRead, sourceOf}
 use Rattle.slot.specs.Calls.{rowsAt, dataNumber, codeAnswer, codeArea, readAnswer}
 
 -- "header 176" bits
@@ -70,12 +70,12 @@ headerIn s coded = take headerOctets (sourceOf (rowsAt s) (s .mask) (s .register
 unfoldable pub packetsIn : FrameState → List ℕ → List ℕ
 packetsIn s coded = unpacked (packetsOf (rateAt s)) (drop headerOctets (sourceOf (rowsAt s) (s .mask) (s .register) coded))
 
--- reading a slot into header and packets: number, state and stuff bits; and what its two areas hold then, which are as found
--- where the number is not 0
+-- reading a slot into header and packets: number, state, stuff bits and failing position; and what its two areas hold then, which
+-- are as found where the number is not 0
 unfoldable pub readPacketsAnswer : FrameState → List ℕ → List ℕ → List ℕ → List ℕ → SlotRead
 readPacketsAnswer s t coded header packets =
     pick (eqb (roomNumber s header packets) 0) (slotAnswer s t coded)
-    (record { number = roomNumber s header packets; state = s; stuff = noStuff })
+    (notRead (roomNumber s header packets) s)
 
 unfoldable pub readHeaderArea : FrameState → List ℕ → List ℕ → List ℕ → List ℕ → List ℕ
 readHeaderArea s t coded header packets = pick (eqb (readPacketsAnswer s t coded header packets .number) 0) (headerIn s coded) header

@@ -21,10 +21,11 @@ use Rattle.plan.specs.PlaceLaws.{group-holds}
 use Rattle.plan.specs.States.{stateNumber}
 use Rattle.packets.specs.Packets.{packed, packNumber, unpackNumber}
 use Rattle.packets.specs.PacketLaws.{sized-yes}
+use Rattle.codeword.specs.CallLaws.{Earlier, earlier-then, earlier-test}
 use Rattle.slot.specs.Slots.{messageBits, sourceOctets}
 use Rattle.slot.specs.Reading.{sourceOf}
 use Rattle.slot.specs.Calls.{rowsAt, dataNumber, slotNumber, readNumber, readAnswer, readArea}
-use Rattle.slot.specs.CallLaws.{at-data}
+use Rattle.slot.specs.CallLaws.{at-data, data-earlier}
 use Rattle.slot.specs.RoundTrips.{slotNumber-lengths}
 use Rattle.stream.specs.SlotPackets.{headerOctets, rateAt, laidNumber, roomNumber, slotAnswer}
 
@@ -132,3 +133,9 @@ pub slot-source : (s : FrameState) (t coded source : List ℕ) → readAnswer s 
     → readArea s t coded source ≡ sourceOf (rowsAt s) (s .mask) (s .register) coded
 unfolding readAnswer readArea
 slot-source s t coded source h = rw (eq-eqb (readNumber s t coded source) 0 h)
+
+-- a refusal for header or packets comes before the slot itself is read
+pub room-earlier : (s : FrameState) (header packets : List ℕ) → Earlier (roomNumber s header packets)
+unfolding roomNumber
+room-earlier s header packets =
+    earlier-then (data-earlier s) (earlier-test (eqb (length header) headerOctets && eqb (length packets) (188 * packetsOf (rateAt s))) LENGTH refl)

@@ -33,8 +33,8 @@ fn read_by(
     answer
 }
 
-// Reads header and packets of the state's next slot, with read_slot's number, state and stuff bits: both, or the areas as they
-// were.
+// Reads header and packets of the state's next slot, with read_slot's number, state, stuff bits and failing position: both, or the
+// areas as they were.
 pub fn read_packets(
     state: FrameState,
     table: &[u16],
@@ -48,11 +48,7 @@ pub fn read_packets(
 {
     let number = room_number(state, header, packets);
     if number != 0 {
-        return SlotRead {
-            number,
-            state,
-            stuff: slot::NO_STUFF,
-        };
+        return slot::not_read(number, state);
     }
     let rate = rate_at(state);
     let end = HEADER + plan::data_octets(rate);

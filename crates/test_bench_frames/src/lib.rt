@@ -38,6 +38,7 @@ fn read_frames(
     found: &mut [u8],
     answers: &mut [u8],
     stuff: &mut [u8],
+    positions: &mut [u16],
 ) {
     let mut n: u64 = 0;
     while n < count {
@@ -50,6 +51,7 @@ fn read_frames(
             found,
             answers,
             stuff,
+            positions,
         );
         n += 1;
     }
@@ -77,6 +79,7 @@ fn run(
 ) {
     let mut answers = [0u8; 120];
     let mut stuff = [0u8; 120];
+    let mut positions = [0u16; 120];
     test_samples::fill(rate as u64, source);
     code_frames(rate, table, codings, source, frame);
     read_frames(
@@ -87,6 +90,7 @@ fn run(
         found,
         &mut answers,
         &mut stuff,
+        &mut positions,
     );
     line(rate, codings, readings, frame, &answers, found);
 }

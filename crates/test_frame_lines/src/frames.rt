@@ -18,6 +18,7 @@ fn code_line(number: u16, tables: &[u16], source: &mut [u8], frame: &mut [u8]) {
 fn read_line(number: u16, name: &[u8], tables: &[u16], frame: &[u8], source: &mut [u8]) {
     let mut answers = [11u8; 120];
     let mut stuff = [11u8; 120];
+    let mut positions = [11u16; 120];
     test_samples::fill(9, source);
     let plan = test_samples::numbered_plan(number);
     let answer = frame_reader::read_frame(
@@ -29,10 +30,12 @@ fn read_line(number: u16, name: &[u8], tables: &[u16], frame: &[u8], source: &mu
         source,
         &mut answers,
         &mut stuff,
+        &mut positions,
     );
     lines::answer(number, name, answer);
     lines::each(b" answers ", &answers);
     lines::each(b" stuff ", &stuff);
+    lines::failing(&positions);
     lines::end(source);
 }
 

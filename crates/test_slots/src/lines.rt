@@ -1,4 +1,5 @@
 // The lines that are written.
+use codeword::WordAnswer;
 use libc::STDOUT_FILENO;
 use plan::Answer;
 use plan::FrameState;
@@ -25,13 +26,23 @@ pub fn coded(rate: u16, slot: u16, answer: Answer, octets: &[u8]) {
     end(state, octets);
 }
 
-// What was read: the damage, the reader's number and the stuff bits, and the number of the lone parity check.
-pub fn read(rate: u16, slot: u16, damage: &[u8], answer: SlotRead, check: u8, octets: &[u8]) {
+// What was read: the damage, the reader's number, the stuff bits and the failing position, and the number and the position of the
+// lone parity check.
+pub fn read(
+    rate: u16,
+    slot: u16,
+    damage: &[u8],
+    answer: SlotRead,
+    check: WordAnswer,
+    octets: &[u8],
+) {
     title(rate, slot);
     io::write_all(STDOUT_FILENO, damage);
     field(b" read ", answer.number as u64);
     field(b" stuff ", answer.stuff as u64);
-    field(b" check ", check as u64);
+    field(b" position ", answer.position as u64);
+    field(b" check ", check.number as u64);
+    field(b" position ", check.position as u64);
     let state = answer.state;
     end(state, octets);
 }

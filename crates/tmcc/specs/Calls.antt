@@ -10,14 +10,19 @@ use Rattle.bits.specs.Digits.{number}
 use Rattle.bits.specs.Octets.{bitsOf}
 use Rattle.dispersal.specs.Register.{settingsOk}
 use Rattle.plan.specs.Sizes.{blockWidth}
+use Rattle.codeword.specs.declared.WordAnswer.{WordAnswer}
 use Rattle.codeword.specs.Calls.{lentNumber as wordLentNumber}
-use Rattle.codeword.specs.Reading.{wordNumber}
+use Rattle.codeword.specs.Reading.{wrongPosition, wordAnswer, wordNumber}
 use Rattle.tmcc.specs.Blocks.{sourceOctets, messageBits, blockShape}
 
--- "6, 4, 5": the settings, the 1,178 and the 3,960 octets, and the parity table
+-- "6": the settings
+unfoldable pub settingsNumber : ℕ → ℕ → ℕ
+settingsNumber mask start = pick (settingsOk blockWidth mask start) 0 REGISTER
+
+-- ", 4, 5": the 1,178 and the 3,960 octets, and the parity table
 unfoldable pub lentNumber : ℕ → ℕ → List ℕ → List ℕ → List ℕ → ℕ
 lentNumber mask start t source block =
-    andThen (pick (settingsOk blockWidth mask start) 0 REGISTER) (wordLentNumber blockShape sourceOctets t source block)
+    andThen (settingsNumber mask start) (wordLentNumber blockShape sourceOctets t source block)
 
 -- 11: "one of the last two TMCC bits is 1", the two as a number
 unfoldable pub tailOk : List ℕ → Bool
@@ -30,3 +35,7 @@ codeNumber mask start t source block = andThen (lentNumber mask start t source b
 -- "or 8, 9"
 unfoldable pub readNumber : ℕ → ℕ → List ℕ → List ℕ → List ℕ → ℕ
 readNumber mask start t block source = andThen (lentNumber mask start t source block) (wordNumber blockShape t mask start block)
+
+-- with where the parity broke (document 02, N7)
+unfoldable pub readAnswer : ℕ → ℕ → List ℕ → List ℕ → List ℕ → WordAnswer
+readAnswer mask start t block source = wordAnswer (readNumber mask start t block source) (wrongPosition blockShape t block)

@@ -13,7 +13,6 @@ use Rattle.bits.specs.OctetParts.{length-addedOctets}
 use Rattle.bits.specs.Sums.{added, addedThree, addedOctets}
 use Rattle.bits.specs.SumLaws.{added-take, added-drop, length-three, three-bits, three-same}
 use Rattle.plan.specs.Sizes.{blockOctets}
-use Rattle.codeword.specs.Words.{wordOf}
 use Rattle.codeword.specs.DemandThree as words
 use Rattle.tmcc.specs.Blocks.{sourceOctets, messageBits, blockShape, messageOf, blockOf}
 use Rattle.tmcc.specs.BlockLaws.{fits, message}

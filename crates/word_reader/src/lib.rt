@@ -6,9 +6,11 @@ ghost use Rattle.codeword.specs.WordLaws.{Fits};
 ghost use Rattle.codeword.specs.Needs.{Checked, Received, Run, ReadOf};
 use codeword::Shape;
 
-// A received word, read: the refusal of its parity or BCH bits, or 0, and the register after it.
+// A received word, read: the refusal of its parity or BCH bits, or 0, the failing position told beside it, and the register
+// after the word.
 pub struct WordRead {
     pub number: u8,
+    pub position: u16,
     pub register: u32,
 }
 
@@ -74,7 +76,7 @@ pub fn read_word(
     sums: &mut [u8],
 ) -> WordRead
     requires { ⌜ Received shape register (now table) (now coded) (now bits) (now input) (now sums) ⌝ }
-    ensures { λ r. ⌜ ReadOf shape (now (table .entry)) mask register (now (coded .entry)) (r .number) (r .register) (now (bits .exit)) ⌝ }
+    ensures { λ r. ⌜ ReadOf shape (now (table .entry)) mask register (now (coded .entry)) (r .number) (r .position) (r .register) (now (bits .exit)) ⌝ }
 {
     let run = codeword::run_bits(shape);
     let wrong = wrong_position(shape, table, coded, bits, input, sums);
@@ -82,6 +84,7 @@ pub fn read_word(
     let number = checks_number(shape, wrong, &bits[0..run]);
     WordRead {
         number,
+        position: codeword::position_with(number, wrong),
         register: next,
     }
 }

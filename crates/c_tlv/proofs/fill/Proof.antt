@@ -12,7 +12,7 @@ unfolding nextNumber
 returns c =
     let a = c .before .before .before .before .before .before .before .before .before .before .before .before .args in
     let k = c .before .before .before .before .before .before .before .narrow in
-    let n = c .before .before .before .before .before .with-two in
+    let n = c .before .before .before .before .before .with-length in
     fill-given (a .rate) (a .packets .now) (a .taken) (a .owed) (a .slots .now) (a .begins .now) (a .next .now) (n .result) _ _ _
     (rw (k .ensures) at (fill-refused (k .result) (a .packets .now) (a .taken) (a .owed) (a .slots .now) (a .begins .now) (a .next .now) (n .result) _
     (n .ensures ∙ ap (λ x. andThen x (nextNumber (a .next .now))) (c .before .before .before .before .before .before .lent-number .ensures)) (c .before .before .before .before .if1 .taken) (c .before .before .put-two .ensures)))
@@ -22,7 +22,7 @@ unfolding nextNumber
 returns-2 c =
     let a = c .before .before .before .before .before .before .before .before .before .before .before .before .before .before .before .before .before .before .before .before .args in
     let k = c .before .before .before .before .before .before .before .before .before .before .before .before .before .before .before .narrow in
-    let n = c .before .before .before .before .before .before .before .before .before .before .before .before .before .with-two in
+    let n = c .before .before .before .before .before .before .before .before .before .before .before .before .before .with-length in
     let f = c .before .before .before .before .before .before .before .before .before .fill in
     fill-given (a .rate) (a .packets .now) (a .taken) (a .owed) (a .slots .now) (a .begins .now) (a .next .now) (c .word .result) _ _ _
     (rw (k .ensures) at (fill-good (k .result) (a .packets .now) (a .taken) (a .owed) (a .slots .now) (a .begins .now) (a .next .now)

@@ -13,7 +13,7 @@ unfolding nextNumber readCall
 returns c =
     let a = c .before .before .before .before .before .before .before .before .before .before .before .before .before .args in
     let k = c .before .before .before .before .before .before .before .narrow in
-    let n = c .before .before .before .before .before .with-two in
+    let n = c .before .before .before .before .before .with-length in
     read-given (a .rate) (a .slots .now) (a .begins .now) (a .lost .now) (a .first) (a .packets .now) (a .next .now) (n .result) _ _
     (rw (k .ensures) at (read-refused (k .result) (a .slots .now) (a .begins .now) (a .lost .now) (a .first) (a .packets .now) (a .next .now) (n .result) _
     (n .ensures ∙ ap (λ x. andThen x (nextNumber (a .next .now))) (c .before .before .before .before .before .before .read-number .ensures)) (c .before .before .before .before .if1 .taken) (c .before .before .put-two .ensures)))
@@ -23,7 +23,7 @@ unfolding nextNumber readCall
 returns-2 c =
     let a = c .before .before .before .before .before .before .before .before .before .before .before .before .before .before .before .before .before .before .args in
     let k = c .before .before .before .before .before .before .before .before .before .before .before .before .narrow in
-    let n = c .before .before .before .before .before .before .before .before .before .before .with-two in
+    let n = c .before .before .before .before .before .before .before .before .before .before .with-length in
     let f = c .before .before .before .before .before .before .before .read in
     read-given (a .rate) (a .slots .now) (a .begins .now) (a .lost .now) (a .first) (a .packets .now) (a .next .now) (c .word .result) _ _
     (rw (k .ensures) at (read-good (k .result) (a .slots .now) (a .begins .now) (a .lost .now) (a .first) (a .packets .now) (a .next .now)

@@ -1,14 +1,15 @@
 -- `tmcc_reader::read_block`: refused as the call is, or answered as the received block is.
-use mathlib.Core.Path.{_≡_, sym, _∙_}
+use mathlib.Core.Path.{_≡_, refl, sym, _∙_}
 use Prim.Native.Nat.{ℕ}
 use borrow.Author.Needs.{needs}
 use lib.ListN.{length-replicate}
 use Rattle.lists.specs.ChoiceLaws.{then-first, then-next}
 use Rattle.refusal.specs.AnswerLaws.{refused}
 use Rattle.dispersal.specs.RegisterLaws.{register-is}
+use Rattle.codeword.specs.ReadingLaws.{answer≡}
 use Rattle.tmcc.specs.BlockLaws.{fits}
 use Rattle.tmcc.specs.Calls.{lentNumber, readNumber}
-use Rattle.tmcc.specs.CallLaws.{lent}
+use Rattle.tmcc.specs.CallLaws.{lent, read-refused, read-looked}
 use Rattle.tmcc_reader.proofs.read_block.Statement.{statement}
 use Rattle.tmcc_reader.proofs.read_block.Tie as tie
 
@@ -16,7 +17,11 @@ returns : tie.Need-returns
 unfolding readNumber
 returns c =
     let e = c .before .lent-number .ensures in
-    refused _ _ _ _ (e ∙ sym (then-first _ _ (λ z. c .if1 .taken (e ∙ z)))) (c .if1 .taken)
+    let a = c .before .before .before .before .before .before .args in
+    let h : lentNumber (a .mask) (a .start) (a .table .now) (a .source .now) (a .block .now) ≡ 0 → ⊥ = λ z. c .if1 .taken (e ∙ z) in (
+      answer≡ e refl ∙ sym (read-refused (a .mask) (a .start) (a .table .now) (a .block .now) (a .source .now) h),
+      refused _ _ _ _ (e ∙ sym (then-first _ _ h)) (c .if1 .taken),
+    )
 
 -- nothing is refused before the block is looked at
 passed : (c : tie.Else1) → let a = c .before .before .before .before .before .before .args in lentNumber (a .mask) (a .start) (a .table .now) (a .source .now) (a .block .now) ≡ 0
@@ -43,7 +48,12 @@ returns-2 : tie.Need-returns-2
 unfolding readNumber
 returns-2 c =
     let r = c .before .before .before .before .before in
-    rw (then-next _ _ (passed (r .before .before .before .before .before))) (r .read .ensures)
+    let o = r .before .before .before .before .before in
+    let a = o .before .before .before .before .before .before .args in
+    let z = passed o in (
+      r .read .ensures .0 ∙ sym (read-looked (a .mask) (a .start) (a .table .now) (a .block .now) (a .source .now) z),
+      rw (then-next _ _ z) (r .read .ensures .1),
+    )
 
 pub read-block-spec : {M : Type 1} → statement M
 read-block-spec = tie.close (tie.spec (λ c κs. search needs) (λ c. search needs) returns (λ c. search needs) (λ c. search needs) (λ c. search needs) read-requires (λ c. search needs) returns-2)

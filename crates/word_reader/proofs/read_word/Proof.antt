@@ -12,8 +12,8 @@ use Rattle.dispersal.specs.Register.{after}
 use Rattle.dispersal.specs.Dispersal.{dispersed}
 use Rattle.dispersal.specs.DispersalLaws.{length-dispersed}
 use Rattle.codeword.specs.Words.{runBits, registerAfter}
-use Rattle.codeword.specs.Reading.{takenOff, checksNumber, wordNumber}
-use Rattle.codeword.specs.ReadingLaws.{takenOff-bits}
+use Rattle.codeword.specs.Reading.{takenOff, positionWith, checksNumber, wordNumber}
+use Rattle.codeword.specs.ReadingLaws.{takenOff-bits, wrong-few}
 use Rattle.word_reader.proofs.read_word.Statement.{statement}
 use Rattle.word_reader.proofs.read_word.Tie as tie
 
@@ -63,21 +63,42 @@ checks-number-requires c κs =
       bits = rw (take-lent n (runBits (a .shape)) (left d) (k .run-bits .ensures), plain d) (takenOff-bits (a .shape) (a .coded .now) (a .mask) (a .register));
     }
 
-returns : tie.Need-returns
-unfolding registerAfter wordNumber
-returns c =
+-- the number is that of the definition
+number-is : (c : tie.After-checks-number)
+    → let a = c .before .before .before .before .before .before .before .before .before .before .before .before .before .before .before .before .before .before .before .before .before .before .before .args in
+    c .checks-number .result ≡ wordNumber (a .shape) (a .table .now) (a .mask) (a .register) (a .coded .now)
+unfolding wordNumber
+number-is c =
     let d = c .before .before .before .before .before in
     let w = d .before .before .before .before .before .before .before .before in
     let k = w .before .before .before .before in
+    let F = k .before .before .before .before .before .before .args .shape in
+    c .checks-number .ensures ∙ ap₂ (checksNumber F) (w .wrong-position .ensures .0) (take-lent (k .run-bits .result) (runBits F) (left d) (k .run-bits .ensures) ∙ plain d)
+
+position-with-requires : tie.Need-position-with-requires
+position-with-requires c κs =
+    let w = c .before .before .before .before .before .before .before .before .before .before .before .before .before in
+    let k = w .before .before .before .before in
+    let s = k .before .before .before .before .before .before in
+    let f = s .pre .checked .lent .fits in
+    omega (arith, w .wrong-position .ensures .0, wrong-few (s .args .shape) (s .args .table .now) (s .args .coded .now), k .run-bits .ensures, f .input)
+
+returns : tie.Need-returns
+unfolding registerAfter
+returns c =
+    let n = c .before in
+    let d = n .before .before .before .before .before in
+    let w = d .before .before .before .before .before .before .before .before in
+    let k = w .before .before .before .before in
     let a = k .before .before .before .before .before .before .args in
-    let n = k .run-bits .result in
-    let z : n ≡ runBits (a .shape) = k .run-bits .ensures in
-    let l : length (take (n - 0) (w .wrong-position .last .1 .1 .1 .0)) ≡ runBits (a .shape) = length-take-le (n - 0) (w .wrong-position .last .1 .1 .1 .0) (omega (arith, room d)) ∙ omega (arith, z) in
+    let b = k .run-bits .result in
+    let l : length (take (b - 0) (w .wrong-position .last .1 .1 .1 .0)) ≡ runBits (a .shape) = length-take-le (b - 0) (w .wrong-position .last .1 .1 .1 .0) (omega (arith, room d)) ∙ omega (arith, k .run-bits .ensures) in
     record {
-      number = c .checks-number .ensures ∙ ap₂ (checksNumber (a .shape)) (w .wrong-position .ensures .0) (take-lent n (runBits (a .shape)) (left d) z ∙ plain d);
+      number = number-is n;
+      position = c .position-with .ensures ∙ ap₂ positionWith (number-is n) (w .wrong-position .ensures .0);
       register = d .disperse .ensures .0 ∙ ap (after (a .shape .width) (a .mask) (a .register)) l;
       plain = plain d;
     }
 
 pub read-word-spec : {M : Type 1} → statement M
-read-word-spec = tie.close (tie.spec (λ c κs. search needs) (λ c κs. search needs) (λ c. search needs) (λ c. search needs) (λ c. search needs) (λ c κs. search needs) (λ c. search needs) (λ c. search needs) (λ c. search needs) checks-number-requires (λ c. search needs) (λ c. search needs) (λ c. search needs) returns)
+read-word-spec = tie.close (tie.spec (λ c κs. search needs) (λ c κs. search needs) (λ c. search needs) (λ c. search needs) (λ c. search needs) (λ c κs. search needs) (λ c. search needs) (λ c. search needs) (λ c. search needs) checks-number-requires position-with-requires (λ c. search needs) (λ c. search needs) (λ c. search needs) returns)

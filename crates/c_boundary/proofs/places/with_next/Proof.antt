@@ -6,7 +6,7 @@ use Rattle.c_boundary.proofs.places.with_next.Tie as tie
 
 returns : tie.Need-returns
 unfolding nextNumber
-returns c = c .with-two .ensures
+returns c = c .with-length .ensures
 
 pub with-next-spec : {M : Type 1} → statement M
 with-next-spec = tie.close (tie.spec (λ c κs. search needs) returns)

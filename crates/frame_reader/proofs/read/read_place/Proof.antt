@@ -7,7 +7,7 @@ use Rattle.plan.specs.Records.{planIn}
 use Rattle.plan.specs.Places.{carries, placeOf}
 use Rattle.plan.specs.StateLaws.{ready-yes}
 use Rattle.slot.specs.Calls.{readAnswer, readArea}
-use Rattle.frame.specs.StepLaws.{answer-dummy, stuff-dummy, read-dummy}
+use Rattle.frame.specs.StepLaws.{answer-dummy, stuff-dummy, position-dummy, read-dummy}
 use Rattle.frame.specs.PlacedLaws.{Between, between, slot-taken}
 use Rattle.frame.specs.SlotBySlot.{read-answer, read-area, pass-answer}
 use Rattle.frame_reader.proofs.read.read_place.Statement.{statement}
@@ -38,7 +38,7 @@ returns c =
     let z = slot-taken (a .state) (a .tables .now) (a .ends .now) (a .source .now) (s .pre .placed) (a .received .now) (s .pre .received-long) k in
     let e = r .read-slot .ensures .0 ∙ ap (λ (u : List ℕ). readAnswer (a .state) u (a .received .now) (a .source .now)) i in
     let w = read-answer (a .state) (a .tables .now) (a .source .now) (a .received .now) z k in (
-      (ap (λ q. q .number) e ∙ w .0, ap (λ q. q .state) e ∙ w .1, ap (λ q. q .stuff) e ∙ w .2),
+      (ap (λ q. q .number) e ∙ w .0, ap (λ q. q .state) e ∙ w .1, ap (λ q. q .stuff) e ∙ w .2, ap (λ q. q .position) e ∙ w .3),
       r .read-slot .ensures .1
           ∙ ap (λ (u : List ℕ). readArea (a .state) u (a .received .now) (a .source .now)) i
           ∙ read-area (a .state) (a .tables .now) (a .source .now) (a .received .now) z k,
@@ -46,15 +46,17 @@ returns c =
 
 returns-2 : tie.Need-returns-2
 returns-2 c =
+    let d = c .not-read .ensures in
     let p = c .before in
     let n = p .before .before in
     let s = n .before .before .before .before .before in
     let a = s .args in
     let k = sym (kind n) ∙ p .before .if1 .left in (
       (
-        sym (answer-dummy (a .state) (a .tables .now) k (a .received .now)),
-        ap (λ q. q .state) (p .pass .ensures) ∙ pass-answer (a .state) (a .tables .now) (s .pre .placed .ready) k .1,
-        sym (stuff-dummy (a .state) (a .tables .now) k (a .received .now)),
+        ap (λ q. q .number) d ∙ sym (answer-dummy (a .state) (a .tables .now) k (a .received .now)),
+        ap (λ q. q .state) d ∙ ap (λ q. q .state) (p .pass .ensures) ∙ pass-answer (a .state) (a .tables .now) (s .pre .placed .ready) k .1,
+        ap (λ q. q .stuff) d ∙ sym (stuff-dummy (a .state) (a .tables .now) k (a .received .now)),
+        ap (λ q. q .position) d ∙ sym (position-dummy (a .state) (a .tables .now) k (a .received .now)),
       ),
       sym (read-dummy (a .state) (a .tables .now) k (a .received .now) (a .source .now)),
     )
@@ -76,5 +78,6 @@ read-place-spec =
     (λ c κs. search needs)
     (λ c. search needs)
     returns
+    (λ c κs. search needs)
     (λ c κs. search needs)
     returns-2)

@@ -8,7 +8,7 @@ use Rattle.dispersal.specs.RegisterLaws.{register-is}
 use Rattle.plan.specs.Sizes.{slotWidth}
 use Rattle.plan.specs.States.{movedOn, stateNumber}
 use Rattle.slot.specs.Slots.{sourceOctets}
-use Rattle.slot.specs.Reading.{noStuff}
+use Rattle.slot.specs.Reading.{notRead}
 use Rattle.slot.specs.Calls.{slotNumber, dataNumber}
 use Rattle.slot.specs.CallLaws.{Accepted-slot, accepted-slot}
 use Rattle.slot_reader.specs.Needs.{ReadOf}
@@ -18,10 +18,11 @@ use Rattle.slot_reader.proofs.reader.read_slot.Tie as tie
 
 returns : tie.Need-returns
 returns c =
-    let n = c .before in
+    let t = c .before in
+    let n = t .before in
     let a = n .before .before .before .before .before .args in
-    let h : slotNumber (a .state) (a .table .now) (a .source .now) (a .coded .now) ≡ 0 → ⊥ = λ e. c .if1 .taken (n .slot-number .ensures ∙ e) in (
-      ap (λ (x : ℕ). record { number = x; state = a .state; stuff = noStuff }) (n .slot-number .ensures) ∙ sym (readAnswer-refused (a .state) (a .table .now) (a .coded .now) (a .source .now) h),
+    let h : slotNumber (a .state) (a .table .now) (a .source .now) (a .coded .now) ≡ 0 → ⊥ = λ e. t .if1 .taken (n .slot-number .ensures ∙ e) in (
+      c .not-read .ensures ∙ ap (λ (x : ℕ). notRead x (a .state)) (n .slot-number .ensures) ∙ sym (readAnswer-refused (a .state) (a .table .now) (a .coded .now) (a .source .now) h),
       sym (readArea-refused (a .state) (a .table .now) (a .coded .now) (a .source .now) h),
     )
 
@@ -70,10 +71,10 @@ returns-2 c =
     let a = n .before .before .before .before .before .before .before .args in
     let p = passed (n .before) in
     let s = a .state in
-    let o = subst (λ (R : ℕ). ReadOf R (a .table .now) (s .mask) (s .register) (a .coded .now) (a .source .now) (r .read .result .number) (r .read .result .register) (r .read .result .stuff) (r .read .last .1 .1 .1 .1 .1 .1 .1 .1 .0)) (n .rows-at .ensures) (r .read .ensures) in (
-      answer≡ (o .number) (c .advanced .ensures ∙ ap (movedOn s) (o .register)) (o .stuff) ∙ sym (readAnswer-looked s (a .table .now) (a .coded .now) (a .source .now) p),
+    let o = subst (λ (R : ℕ). ReadOf R (a .table .now) (s .mask) (s .register) (a .coded .now) (a .source .now) (r .read .result .number) (r .read .result .register) (r .read .result .stuff) (r .read .result .position) (r .read .last .1 .1 .1 .1 .1 .1 .1 .1 .0)) (n .rows-at .ensures) (r .read .ensures) in (
+      answer≡ (o .number) (c .advanced .ensures ∙ ap (movedOn s) (o .register)) (o .stuff) (o .position) ∙ sym (readAnswer-looked s (a .table .now) (a .coded .now) (a .source .now) p),
       o .area ∙ sym (readArea-looked s (a .table .now) (a .coded .now) (a .source .now) p),
     )
 
 pub read-slot-spec : {M : Type 1} → statement M
-read-slot-spec = tie.close (tie.spec (λ c κs. search needs) (λ c. search needs) returns rows-at-requires (λ c. search needs) (λ c. search needs) (λ c. search needs) read-requires advanced-requires (λ c. search needs) returns-2)
+read-slot-spec = tie.close (tie.spec (λ c κs. search needs) (λ c κs. search needs) (λ c. search needs) returns rows-at-requires (λ c. search needs) (λ c. search needs) (λ c. search needs) read-requires advanced-requires (λ c. search needs) returns-2)

@@ -15,7 +15,7 @@ use Rattle.codeword.specs.Reading.{takenOff, messageIn, tailIn, wordNumber}
 use Rattle.codeword.specs.ReadingLaws.{takenOff-bits}
 use Rattle.slot.specs.Slots.{sourceOctets, slotShape}
 use Rattle.slot.specs.SlotLaws.{sizes, fits, register-after}
-use Rattle.slot.specs.Reading.{receivedNumber, stuffIn, sourceOf}
+use Rattle.slot.specs.Reading.{receivedNumber, stuffIn, sourceOf, failingIn}
 use Rattle.slot_reader.proofs.received.read.Statement.{statement}
 use Rattle.slot_reader.proofs.received.read.Tie as tie
 
@@ -46,7 +46,7 @@ run-bits-requires : tie.Need-run-bits-requires
 run-bits-requires c κs = let s = c .before .before .before .before .before .before .before in rw (c .shape .ensures) (fits (s .args .rows) (s .pre .word .checked .rate))
 
 returns : tie.Need-returns
-unfolding receivedNumber
+unfolding receivedNumber failingIn
 returns c =
     let w = c .before .before .before .before .before .before .before .before in
     let s = w .before .before .before .before .before .before .before .before .before .before .before .before in
@@ -57,6 +57,7 @@ returns c =
       number = o .number;
       register = o .register ∙ register-after (a .rows) (a .mask) (a .register) (s .pre .word .checked .rate);
       stuff = rw z;
+      position = o .position;
       area = rw z;
     }
 
@@ -74,7 +75,7 @@ take-source-requires c κs =
     }
 
 returns-2 : tie.Need-returns-2
-unfolding receivedNumber stuffIn sourceOf
+unfolding receivedNumber stuffIn sourceOf failingIn
 returns-2 c =
     let t = c .before .before in
     let e = t .before .before .before .before in
@@ -90,6 +91,7 @@ returns-2 c =
       number = sym n;
       register = o .register ∙ register-after (a .rows) (a .mask) (a .register) (s .pre .word .checked .rate);
       stuff = rw z (v .0 ∙ ap (λ (u : List ℕ). number 6 (tailIn F u)) (lent w));
+      position = o .position;
       area = rw z (v .1 ∙ ap (λ (u : List ℕ). octetsOf (sourceOctets (a .rows)) (messageIn F u)) (lent w));
     }
 

@@ -11,9 +11,10 @@ use Rattle.stream.proofs.reading.read_packets.Tie as tie
 returns : tie.Need-returns
 unfolding readPacketsAnswer readHeaderArea readPacketsArea
 returns c =
-    let n = c .before .room-number .ensures in
-    let e = ne-eqb _ 0 (c .if1 .taken) in
-    (rw (← n, e), (rw (← n, e, e), rw (← n, e, e)))
+    let t = c .before in
+    let n = t .before .room-number .ensures in
+    let e = ne-eqb _ 0 (t .if1 .taken) in
+    (rw (← n, e) (c .not-read .ensures), (rw (← n, e, e), rw (← n, e, e)))
 
 none : (c : tie.Else1) → let a = c .before .before .before .before .before .before .before .before .args in roomNumber (a .state) (a .header .now) (a .packets .now) ≡ 0
 none c = sym (c .before .room-number .ensures) ∙ c .if1 .left
@@ -32,6 +33,7 @@ pub read-packets-spec : {M : Type 1} → statement M
 read-packets-spec =
     tie.close
     (tie.spec
+    (λ c κs. search needs)
     (λ c κs. search needs)
     (λ c. search needs)
     (λ c. search needs)

@@ -1,0 +1,19 @@
+-- `c_boundary::with_length`: each way out rewrites with the tests on the way to it.
+use borrow.Author.Needs.{needs}
+use borrow.Author.Tests.{eq-eqb, ne-eqb}
+use Rattle.c_boundary.proofs.places.with_length.Statement.{statement}
+use Rattle.c_boundary.proofs.places.with_length.Tie as tie
+
+returns : tie.Need-returns
+returns c = rw (ne-eqb _ 0 (c .before .if1 .taken)) (c .word .ensures)
+
+returns-2 : tie.Need-returns-2
+returns-2 c =
+    let b = c .before in
+    rw (eq-eqb _ 0 (b .before .if1 .left), ne-eqb _ _ (b .if2 .taken)) (c .word2 .ensures)
+
+returns-3 : tie.Need-returns-3
+returns-3 c = rw (eq-eqb _ 0 (c .before .if1 .left), eq-eqb _ _ (c .if2 .left))
+
+pub with-length-spec : {M : Type 1} → statement M
+with-length-spec = tie.close (tie.spec (λ c κs. search needs) returns (λ c κs. search needs) returns-2 returns-3)
