@@ -311,8 +311,8 @@ pub fn code_slot(at: At, table: &[u16], source: &[u8], coded: &mut [u8], next: &
     }
 }
 
-/// Reads a slot; 8 and 9 move on. Every answer writes a `report` of two numbers: the stuff bits, or 255 with a refusal, and with
-/// 8 the lowest failing parity position, else 65535. Numbers: 1, 13, 14, 15, 6, 3, 2, 4, 5, 8, 9.
+/// Reads a slot; 8 and 9 move on. Every answer writes a `report` of two numbers: the stuff bits, or 255 with a refusal; and
+/// with 8 the lowest failing parity position, else 65535. Numbers: 1, 13, 14, 15, 6, 3, 2, 4, 5, 8, 9.
 pub fn read_slot(at: At, table: &[u16], coded: &[u8], source: &mut [u8], report: &mut [u16], next: &mut [u32]) -> u32 {
     let At { plan, mask, start, slot, register } = at;
     unsafe {

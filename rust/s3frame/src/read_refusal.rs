@@ -42,3 +42,35 @@ impl From<ReadRefusal> for Refusal {
         refused.refusal
     }
 }
+
+#[cfg(test)]
+mod tests {
+    use super::*;
+
+    #[test]
+    fn parity_alone_has_a_position() {
+        assert_eq!(read_answer(0, 65535), Ok(()));
+        for position in [0, 1, 29545] {
+            let refused = ReadRefusal { refusal: Refusal::Parity, position: Some(position) };
+            assert_eq!(read_answer(8, position), Err(refused));
+        }
+        for refusal in Refusal::ALL.into_iter().filter(|&refusal| refusal != Refusal::Parity) {
+            assert_eq!(read_answer(refusal.number(), 65535), Err(ReadRefusal { refusal, position: None }));
+        }
+    }
+
+    #[test]
+    fn a_refusal_prints_its_position_where_it_has_one() {
+        let printed = |number, position| read_answer(number, position).expect_err("a refusal").to_string();
+        assert_eq!(printed(8, 0), "refused 8 parity: some LDPC parity bit is wrong, first at position 0");
+        assert_eq!(printed(8, 29545), "refused 8 parity: some LDPC parity bit is wrong, first at position 29545");
+        assert_eq!(printed(9, 65535), Refusal::Bch.to_string());
+        assert_eq!(printed(4, 65535), Refusal::Length.to_string());
+    }
+
+    #[test]
+    fn the_refusal_by_itself() {
+        let refused = read_answer(8, 7).expect_err("a refusal");
+        assert_eq!(Refusal::from(refused), Refusal::Parity);
+    }
+}
