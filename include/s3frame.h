@@ -18,7 +18,7 @@ extern "C" {
 #endif
 
 /* The version of the library: 10,000 times the major number, 100 times the minor one, and the patch number. */
-#define S3_VERSION 700
+#define S3_VERSION 800
 
 /* A result that nobody looks at is a mistake, of which the compiler warns. */
 #if defined(__cplusplus) && __cplusplus >= 201703L
@@ -61,8 +61,9 @@ S3_RESULT static inline const char *s3_word(uint32_t number) {
 
 /* Lengths of areas. */
 #define S3_NEXT 2u                /* numbers of `next`: next slot, register */
-#define S3_REPORT 1u              /* numbers of `report`: the stuff bits */
-#define S3_SLOTS 120u             /* slots of a frame, and octets of `answers` and of `stuff` of s3_read_frame */
+#define S3_REPORT 2u              /* numbers of `report`: the stuff bits, the failing position */
+#define S3_POSITION 1u            /* numbers of `position`: the failing position */
+#define S3_SLOTS 120u             /* slots of a frame, and elements of `answers`, `stuff` and `positions` of s3_read_frame */
 #define S3_SLOT_OCTETS 5610u      /* octets of a coded slot */
 #define S3_FRAME_OCTETS 673200u   /* octets of a coded frame: slot s begins at 5,610 * (s - 1) */
 #define S3_HEADER_OCTETS 22u      /* octets of a slot's header */
@@ -89,7 +90,12 @@ S3_RESULT static inline const char *s3_word(uint32_t number) {
 #define S3_STUFF_ONES 63u /* six ones, which coding sends */
 #define S3_NO_STUFF 255u  /* what stands for no stuff bits */
 
+/* Where parity broke: the failing position of a slot or TMCC block is the lowest one at which a received parity bit is wrong,
+ * counted from 0 among the parity bits, of which a slot has 374 * (120 - R) and a block 22,066. */
+#define S3_NO_POSITION 65535u /* what stands for none */
+
 /* Rates 1 to 11 are 1/3, 2/5, 1/2, 3/5, 2/3, 3/4, 7/9, 4/5, 5/6, 7/8, 9/10.
+ * R, the rows of the parity table, are 41, 49, 61, 73, 81, 89, 93, 97, 101, 105, 109.
  * P, the packets of a slot, are 10, 12, 15, 18, 20, 22, 23, 24, 25, 26, 27: s3_packets_of.
  * T, the length of the published parity table, is 278, 333, 356, 402, 432, 461, 471, 465, 481, 510, 439: s3_table_entries.
  * Modulations 1 to 5 are pi/2-shift BPSK, QPSK, 8PSK, 16APSK, 32APSK: bits in a symbol.
@@ -155,7 +161,7 @@ S3_RESULT uint32_t s3_code_slot(const uint8_t *plan, size_t plan_length, uint32_
  * S3_STUFF_ONES; for other numbers it gives the slot with ones there and its parity made anew.
  *   coded   5,610 octets
  *   source  22 + 187 * P octets: header and data
- *   report  1 number: the stuff bits, 0 to 63; S3_NO_STUFF with a refusal
+ *   report  2 numbers: the stuff bits, 0 to 63, or S3_NO_STUFF with a refusal; with 8 the failing position, else S3_NO_POSITION
  *   next    2 numbers: the next slot, and the register there; written with 0, and with 8 and 9 too
  * Numbers: 1 (also slot 0), 13, 14, 15, 6, 3, 2 (at a dummy), 4, 5, 8, 9. Where report has another length it is left as
  * found. */
@@ -180,7 +186,7 @@ S3_RESULT uint32_t s3_code_packets(const uint8_t *plan, size_t plan_length, uint
  *   coded    5,610 octets
  *   header   22 octets
  *   packets  188 * P octets: the packets, 0x47 put back
- *   report   1 number: the stuff bits, 0 to 63; S3_NO_STUFF with a refusal
+ *   report   2 numbers: those of s3_read_slot
  *   next     2 numbers: the next slot, and the register there; written with 0, and with 8 and 9 too
  * Numbers: 1 (also slot 0), 13, 14, 15, 6, 3, 2 (at a dummy), 4, 5, 8, 9. Where report has another length it is left as
  * found. */
@@ -191,10 +197,11 @@ S3_RESULT uint32_t s3_read_packets(const uint8_t *plan, size_t plan_length, uint
                                    uint32_t *next, size_t next_length);
 
 /* Checks the LDPC parity of a slot, whatever its dispersal.
- *   coded  5,610 octets
- * Numbers: 1, 4, 5, 8. Nothing is written. */
+ *   coded     5,610 octets
+ *   position  1 number: with 8 the failing position, else S3_NO_POSITION
+ * Numbers: 1, 4, 5, 8. Where position has another length it is left as found. */
 S3_RESULT uint32_t s3_check_parity(uint32_t rate, const uint16_t *table, size_t table_length, const uint8_t *coded,
-                                   size_t coded_length);
+                                   size_t coded_length, uint16_t *position, size_t position_length);
 
 /* Codes a whole frame.
  *   source  the octets of all data slots, end to end
@@ -205,15 +212,17 @@ S3_RESULT uint32_t s3_code_frame(const uint8_t *plan, size_t plan_length, uint32
                                  size_t source_length, uint8_t *frame, size_t frame_length);
 
 /* Reads a whole frame; the stuff bits of its slots may be any.
- *   frame    673,200 octets
- *   source   the octets of all data slots, end to end; those of a slot that is not read with 0 are left as found
- *   answers  120 octets, one for each slot: 0, 2 for a dummy, or 8, 9
- *   stuff    120 octets, one for each slot: the stuff bits, 0 to 63, or S3_NO_STUFF where the slot's answer isn't 0
+ *   frame      673,200 octets
+ *   source     the octets of all data slots, end to end; those of a slot that is not read with 0 are left as found
+ *   answers    120 octets, one for each slot: 0, 2 for a dummy, or 8, 9
+ *   stuff      120 octets, one for each slot: the stuff bits, 0 to 63, or S3_NO_STUFF where the slot's answer isn't 0
+ *   positions  120 numbers, one for each slot: the failing position, or S3_NO_POSITION where the slot's answer isn't 8
  * Numbers: 1, 13, 14, 15, 6, 4, 5. */
 S3_RESULT uint32_t s3_read_frame(const uint8_t *plan, size_t plan_length, uint32_t mask, uint32_t start,
                                  const uint16_t *tables, size_t tables_length, const uint8_t *frame,
                                  size_t frame_length, uint8_t *source, size_t source_length, uint8_t *answers,
-                                 size_t answers_length, uint8_t *stuff, size_t stuff_length);
+                                 size_t answers_length, uint8_t *stuff, size_t stuff_length, uint16_t *positions,
+                                 size_t positions_length);
 
 /* Codes a TMCC block, under a parity table of rate 3.
  *   source  1,178 octets: 9,422 bits, and two zeros
@@ -223,11 +232,13 @@ S3_RESULT uint32_t s3_code_tmcc(uint32_t mask, uint32_t start, const uint16_t *t
                                 const uint8_t *source, size_t source_length, uint8_t *block, size_t block_length);
 
 /* Reads a TMCC block, under a parity table of rate 3.
- *   block   3,960 octets
- *   source  1,178 octets: 9,422 bits, and two zeros
- * Numbers: 6, 4, 5, 8, 9. */
+ *   block     3,960 octets
+ *   source    1,178 octets: 9,422 bits, and two zeros
+ *   position  1 number: with 8 the failing position, else S3_NO_POSITION
+ * Numbers: 6, 4, 5, 8, 9. Where position has another length it is left as found. */
 S3_RESULT uint32_t s3_read_tmcc(uint32_t mask, uint32_t start, const uint16_t *table, size_t table_length,
-                                const uint8_t *block, size_t block_length, uint8_t *source, size_t source_length);
+                                const uint8_t *block, size_t block_length, uint8_t *source, size_t source_length,
+                                uint16_t *position, size_t position_length);
 
 /* The labels of a slot, one octet each.
  *   coded   5,610 octets

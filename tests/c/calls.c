@@ -58,6 +58,36 @@ static int at(const uint32_t *next, uint32_t slot, uint32_t held)
     return next[0] == slot && next[1] == held;
 }
 
+/* Areas for a report and for a position, with room for a number too many. */
+static uint16_t report[S3_REPORT + 1], position[S3_POSITION + 1];
+
+static void put_report(void)
+{
+    for (size_t k = 0; k < COUNT(report); k++) report[k] = FOUND;
+}
+
+/* Whether report holds these numbers, and what is behind them is as found. */
+static int reported(uint32_t stuff, uint32_t failing)
+{
+    return report[0] == stuff && report[1] == failing && report[2] == FOUND;
+}
+
+static int refused_report(void)
+{
+    return reported(S3_NO_STUFF, S3_NO_POSITION);
+}
+
+static int unreported(void)
+{
+    return reported(FOUND, FOUND);
+}
+
+/* Whether position holds this number, and what is behind it is as found. */
+static int failing_at(uint32_t failing)
+{
+    return position[0] == failing && position[1] == FOUND;
+}
+
 static unsigned bit(const uint8_t *area, size_t i)
 {
     return area[i / 8] >> (7 - i % 8) & 1u;
@@ -190,7 +220,7 @@ static const struct {
 static void refusing_plans(void)
 {
     uint8_t given[1] = {FOUND}, octets[1] = {FOUND}, more[1] = {FOUND}, stuff[1] = {FOUND};
-    uint16_t table[1] = {FOUND}, report[2] = {FOUND, FOUND};
+    uint16_t table[1] = {FOUND}, positions[1] = {FOUND};
     uint32_t next[1] = {FOUND};
     for (size_t k = 0; k < COUNT(refused_plans); k++) {
         const uint8_t *const plan = refused_plans[k].octets;
@@ -198,23 +228,29 @@ static void refusing_plans(void)
         const uint32_t number = refused_plans[k].number;
 #define PASS(slot) s3_pass(plan, n, 0, 0, slot, 0, next, 1)
 #define CODE_SLOT(slot) s3_code_slot(plan, n, 0, 0, slot, 0, table, 1, given, 1, octets, 1, next, 1)
-#define READ_SLOT(slot) s3_read_slot(plan, n, 0, 0, slot, 0, table, 1, given, 1, octets, 1, report, 2, next, 1)
+#define READ_SLOT(slot, count) \
+    (put_report(), s3_read_slot(plan, n, 0, 0, slot, 0, table, 1, given, 1, octets, 1, report, count, next, 1))
 #define FROM_PACKETS(slot) s3_code_packets(plan, n, 0, 0, slot, 0, table, 1, given, 1, given, 1, octets, 1, next, 1)
-#define READ_INTO_PACKETS(slot) \
-    s3_read_packets(plan, n, 0, 0, slot, 0, table, 1, given, 1, octets, 1, more, 1, report, 2, next, 1)
+#define READ_INTO_PACKETS(slot, count)                                                                                     \
+    (put_report(),                                                                                                         \
+     s3_read_packets(plan, n, 0, 0, slot, 0, table, 1, given, 1, octets, 1, more, 1, report, count, next, 1))
         EXPECT(s3_source_octets(plan, n) == 0 && s3_tables_entries(plan, n) == 0);
         EXPECT(s3_place(plan, n, 121, next, 1) == number && s3_place(plan, n, 0, next, 1) == S3_PLAN);
         EXPECT(s3_published_tables(plan, n, table, 1) == number && s3_open(plan, n, 0, 0, next, 1) == number);
         EXPECT(PASS(121) == number && PASS(0) == S3_PLAN);
         EXPECT(CODE_SLOT(121) == number && CODE_SLOT(0) == S3_PLAN);
-        EXPECT(READ_SLOT(121) == number && READ_SLOT(0) == S3_PLAN);
+        EXPECT(READ_SLOT(121, 2) == number && refused_report() && READ_SLOT(0, 2) == S3_PLAN && refused_report());
+        EXPECT(READ_SLOT(121, 1) == number && unreported() && READ_SLOT(0, 3) == S3_PLAN && unreported());
         EXPECT(FROM_PACKETS(121) == number && FROM_PACKETS(0) == S3_PLAN);
-        EXPECT(READ_INTO_PACKETS(121) == number && READ_INTO_PACKETS(0) == S3_PLAN);
+        EXPECT(READ_INTO_PACKETS(121, 2) == number && refused_report());
+        EXPECT(READ_INTO_PACKETS(0, 2) == S3_PLAN && refused_report());
+        EXPECT(READ_INTO_PACKETS(121, 3) == number && unreported());
+        EXPECT(READ_INTO_PACKETS(0, 1) == S3_PLAN && unreported());
         EXPECT(s3_code_frame(plan, n, 0, 0, table, 1, given, 1, octets, 1) == number);
-        EXPECT(s3_read_frame(plan, n, 0, 0, table, 1, given, 1, octets, 1, more, 1, stuff, 1) == number);
+        EXPECT(s3_read_frame(plan, n, 0, 0, table, 1, given, 1, octets, 1, more, 1, stuff, 1, positions, 1) == number);
     }
     EXPECT(octets[0] == FOUND && more[0] == FOUND && stuff[0] == FOUND);
-    EXPECT(table[0] == FOUND && report[0] == FOUND && report[1] == FOUND && next[0] == FOUND);
+    EXPECT(table[0] == FOUND && positions[0] == FOUND && next[0] == FOUND);
 }
 
 static void passing(void)
@@ -296,33 +332,41 @@ static void reading_a_slot(void)
 {
     static uint8_t back[SOURCE_1], damaged[S3_SLOT_OCTETS];
     uint32_t next[2] = {7, 8};
-    uint16_t report[2] = {FOUND, FOUND};
     const size_t plan = sizeof lowest, table = COUNT(table1);
     memset(back, FOUND, sizeof back);
-#define READ(slot, held, from, octets, count, next_length)                                                             \
-    (report[0] = FOUND, s3_read_slot(lowest, plan, mask, start, slot, held, table1, table, from, 5610, back, octets,   \
-                                     report, count, next, next_length))
-    EXPECT(READ(0, 1, slot1, SOURCE_1, 1, 2) == S3_PLAN && report[0] == S3_NO_STUFF);
-    EXPECT(READ(1, 0, slot1, SOURCE_1, 1, 2) == S3_REGISTER && report[0] == S3_NO_STUFF);
-    EXPECT(READ(121, 1, slot1, SOURCE_1, 1, 2) == S3_FULL && report[0] == S3_NO_STUFF);
-    EXPECT(READ(121, 1, slot1, SOURCE_1, 2, 2) == S3_FULL && report[0] == FOUND);
-    EXPECT(READ(1, 1, slot1, SOURCE_1 - 1, 1, 2) == S3_LENGTH && report[0] == S3_NO_STUFF);
-    EXPECT(READ(1, 1, slot1, SOURCE_1, 1, 0) == S3_LENGTH && report[0] == S3_NO_STUFF);
-    EXPECT(READ(1, 1, slot1, SOURCE_1, 0, 2) == S3_LENGTH && report[0] == FOUND);
-    EXPECT(READ(1, 1, slot1, SOURCE_1, 2, 2) == S3_LENGTH && report[0] == FOUND);
-    EXPECT(READ(1, 1, slot1, SOURCE_1, 2, 1) == S3_LENGTH && report[0] == FOUND);
+#define READ(slot, held, length, from, octets, count, next_length)                                                         \
+    (put_report(), s3_read_slot(lowest, plan, mask, start, slot, held, table1, length, from, 5610, back, octets, report,   \
+                                count, next, next_length))
+    EXPECT(READ(0, 1, table, slot1, SOURCE_1, 2, 2) == S3_PLAN && refused_report());
+    EXPECT(READ(1, 0, table, slot1, SOURCE_1, 2, 2) == S3_REGISTER && refused_report());
+    EXPECT(READ(1, 0, table, slot1, SOURCE_1, 1, 2) == S3_REGISTER && unreported());
+    EXPECT(READ(121, 1, table, slot1, SOURCE_1, 2, 2) == S3_FULL && refused_report());
+    EXPECT(READ(121, 1, table, slot1, SOURCE_1, 1, 2) == S3_FULL && unreported());
+    EXPECT(READ(1, 1, table, slot1, SOURCE_1 - 1, 2, 2) == S3_LENGTH && refused_report());
+    EXPECT(READ(1, 1, table, slot1, SOURCE_1, 2, 0) == S3_LENGTH && refused_report());
+    for (size_t count = 0; count <= COUNT(report); count++) {
+        if (count == S3_REPORT) continue;
+        EXPECT(READ(1, 1, table, slot1, SOURCE_1, count, 2) == S3_LENGTH && unreported());
+        EXPECT(READ(1, 1, table - 1, slot1, SOURCE_1, count, 1) == S3_LENGTH && unreported());
+    }
+    EXPECT(READ(1, 1, table - 1, slot1, SOURCE_1, 2, 2) == S3_TABLE && refused_report());
     EXPECT(at(next, 7, 8));
     memcpy(damaged, slot1, sizeof damaged);
     flip(damaged, 44879);
-    EXPECT(READ(1, 1, damaged, SOURCE_1, 1, 2) == S3_PARITY && at(next, 2, 512) && report[0] == S3_NO_STUFF);
+    EXPECT(READ(1, 1, table, damaged, SOURCE_1, 2, 2) == S3_PARITY && at(next, 2, 512) && reported(S3_NO_STUFF, 29545));
+    next[0] = 7;
+    EXPECT(READ(1, 1, table, damaged, SOURCE_1, 3, 2) == S3_LENGTH && at(next, 7, 512) && unreported());
     memcpy(damaged, slot1, sizeof damaged);
     flip(damaged, 176);
     new_parity(damaged, ROWS_1, table1);
-    EXPECT(READ(2, 1, damaged, SOURCE_1, 1, 2) == S3_BCH && at(next, 3, 512) && report[0] == S3_NO_STUFF);
+    EXPECT(READ(2, 1, table, damaged, SOURCE_1, 2, 2) == S3_BCH && at(next, 3, 512) && refused_report());
     EXPECT(untouched(back, sizeof back));
-    EXPECT(READ(1, 1, slot1, SOURCE_1, 1, 2) == S3_ACCEPTED && at(next, 2, 512) && report[0] == S3_STUFF_ONES);
-    EXPECT(memcmp(back, source1, sizeof back) == 0 && report[1] == FOUND);
+    EXPECT(READ(1, 1, table, slot1, SOURCE_1, 2, 2) == S3_ACCEPTED && at(next, 2, 512));
+    EXPECT(reported(S3_STUFF_ONES, S3_NO_POSITION) && memcmp(back, source1, sizeof back) == 0);
 }
+
+#define CHECK(rate, length, from, octets, count) \
+    (position[0] = position[1] = FOUND, s3_check_parity(rate, table1, length, from, octets, position, count))
 
 static void checking_parity(void)
 {
@@ -330,14 +374,20 @@ static void checking_parity(void)
     const size_t table = COUNT(table1);
     memcpy(other, slot1, sizeof other);
     put_stuff(other, ROWS_1, table1, 62);
-    EXPECT(s3_check_parity(1, table1, table, slot1, sizeof slot1) == S3_ACCEPTED);
-    EXPECT(s3_check_parity(1, table1, table, other, sizeof other) == S3_ACCEPTED);
+    EXPECT(CHECK(1, table, slot1, 5610, 1) == S3_ACCEPTED && failing_at(S3_NO_POSITION));
+    EXPECT(CHECK(1, table, other, 5610, 1) == S3_ACCEPTED && failing_at(S3_NO_POSITION));
     flip(other, 44879);
-    EXPECT(s3_check_parity(1, table1, table, other, sizeof other) == S3_PARITY);
-    EXPECT(s3_check_parity(1, table1, table - 1, slot1, sizeof slot1) == S3_TABLE);
-    EXPECT(s3_check_parity(1, table1, table - 1, slot1, 5609) == S3_LENGTH);
-    EXPECT(s3_check_parity(12, table1, table, slot1, 5609) == S3_PLAN);
-    EXPECT(s3_check_parity(65537, table1, table, slot1, sizeof slot1) == S3_PLAN);
+    EXPECT(CHECK(1, table, other, 5610, 1) == S3_PARITY && failing_at(29545));
+    for (size_t count = 0; count <= COUNT(position); count += 2) {
+        EXPECT(CHECK(1, table, slot1, 5610, count) == S3_LENGTH && failing_at(FOUND));
+        EXPECT(CHECK(1, table, other, 5610, count) == S3_LENGTH && failing_at(FOUND));
+        EXPECT(CHECK(1, table - 1, other, 5610, count) == S3_LENGTH && failing_at(FOUND));
+        EXPECT(CHECK(12, table, other, 5610, count) == S3_PLAN && failing_at(FOUND));
+    }
+    EXPECT(CHECK(1, table - 1, other, 5610, 1) == S3_TABLE && failing_at(S3_NO_POSITION));
+    EXPECT(CHECK(1, table - 1, other, 5609, 1) == S3_LENGTH && failing_at(S3_NO_POSITION));
+    EXPECT(CHECK(12, table, other, 5609, 1) == S3_PLAN && failing_at(S3_NO_POSITION));
+    EXPECT(CHECK(65537, table, slot1, 5610, 1) == S3_PLAN && failing_at(S3_NO_POSITION));
 }
 
 /* A slot is read with any stuff bits, and what is read of it is coded as slot1, which alone has six ones. */
@@ -345,15 +395,15 @@ static void reading_stuff_bits(void)
 {
     static uint8_t back[SOURCE_1], sent[S3_SLOT_OCTETS], again[S3_SLOT_OCTETS];
     uint32_t next[2];
-    uint16_t report[1];
     const size_t plan = sizeof lowest, table = COUNT(table1);
+    put_report();
     for (uint32_t stuff = 0; stuff < 64; stuff++) {
         memcpy(sent, slot1, sizeof sent);
         put_stuff(sent, ROWS_1, table1, stuff);
         memset(back, FOUND, sizeof back);
         EXPECT(s3_read_slot(lowest, plan, mask, start, 3, 1, table1, table, sent, sizeof sent, back, sizeof back, report,
                             S3_REPORT, next, S3_NEXT) == S3_ACCEPTED);
-        EXPECT(report[0] == stuff && at(next, 4, 512) && memcmp(back, source1, sizeof back) == 0);
+        EXPECT(reported(stuff, S3_NO_POSITION) && at(next, 4, 512) && memcmp(back, source1, sizeof back) == 0);
         EXPECT(s3_code_slot(lowest, plan, mask, start, 3, 1, table1, table, back, sizeof back, again, sizeof again, next,
                             S3_NEXT) == S3_ACCEPTED);
         EXPECT(memcmp(again, slot1, sizeof again) == 0);
@@ -396,37 +446,92 @@ static void reading_packets(void)
 {
     static uint8_t header[S3_HEADER_OCTETS], back[sizeof packets1], damaged[S3_SLOT_OCTETS];
     uint32_t next[2] = {7, 8};
-    uint16_t report[2] = {FOUND, FOUND};
     const size_t plan = sizeof lowest, table = COUNT(table1);
     memset(header, FOUND, sizeof header);
     memset(back, FOUND, sizeof back);
-#define READ_PACKETS(slot, length, from, head, octets, count, next_length)                                             \
-    (report[0] = FOUND, s3_read_packets(lowest, plan, mask, start, slot, 1, table1, length, from, 5610, header, head,  \
-                                        back, octets, report, count, next, next_length))
-    EXPECT(READ_PACKETS(0, table, slot1, 22, 1880, 1, 2) == S3_PLAN && report[0] == S3_NO_STUFF);
-    EXPECT(READ_PACKETS(121, table, slot1, 21, 1880, 1, 2) == S3_FULL && report[0] == S3_NO_STUFF);
-    EXPECT(READ_PACKETS(1, table - 1, slot1, 21, 1880, 1, 2) == S3_LENGTH && report[0] == S3_NO_STUFF);
-    EXPECT(READ_PACKETS(1, table - 1, slot1, 22, 1881, 1, 2) == S3_LENGTH && report[0] == S3_NO_STUFF);
-    EXPECT(READ_PACKETS(1, table - 1, slot1, 22, 1880, 1, 1) == S3_LENGTH && report[0] == S3_NO_STUFF);
-    EXPECT(READ_PACKETS(1, table - 1, slot1, 22, 1880, 0, 2) == S3_LENGTH && report[0] == FOUND);
-    EXPECT(READ_PACKETS(1, table - 1, slot1, 22, 1880, 2, 2) == S3_LENGTH && report[0] == FOUND);
-    EXPECT(READ_PACKETS(1, table - 1, slot1, 22, 1880, 1, 2) == S3_TABLE && report[0] == S3_NO_STUFF);
+#define READ_PACKETS(slot, length, from, head, octets, count, next_length)                                                 \
+    (put_report(), s3_read_packets(lowest, plan, mask, start, slot, 1, table1, length, from, 5610, header, head, back,     \
+                                   octets, report, count, next, next_length))
+    EXPECT(READ_PACKETS(0, table, slot1, 22, 1880, 2, 2) == S3_PLAN && refused_report());
+    EXPECT(READ_PACKETS(121, table, slot1, 21, 1880, 2, 2) == S3_FULL && refused_report());
+    EXPECT(READ_PACKETS(121, table, slot1, 21, 1880, 3, 2) == S3_FULL && unreported());
+    EXPECT(READ_PACKETS(1, table - 1, slot1, 21, 1880, 2, 2) == S3_LENGTH && refused_report());
+    EXPECT(READ_PACKETS(1, table - 1, slot1, 22, 1881, 2, 2) == S3_LENGTH && refused_report());
+    EXPECT(READ_PACKETS(1, table - 1, slot1, 22, 1880, 2, 1) == S3_LENGTH && refused_report());
+    for (size_t count = 0; count <= COUNT(report); count++) {
+        if (count == S3_REPORT) continue;
+        EXPECT(READ_PACKETS(1, table, slot1, 22, 1880, count, 2) == S3_LENGTH && unreported());
+        EXPECT(READ_PACKETS(1, table - 1, slot1, 22, 1880, count, 2) == S3_LENGTH && unreported());
+    }
+    EXPECT(READ_PACKETS(1, table - 1, slot1, 22, 1880, 2, 2) == S3_TABLE && refused_report());
     EXPECT(at(next, 7, 8));
     memcpy(damaged, slot1, sizeof damaged);
     flip(damaged, 44879);
-    EXPECT(READ_PACKETS(1, table, damaged, 22, 1880, 1, 2) == S3_PARITY && at(next, 2, 512) && report[0] == S3_NO_STUFF);
+    EXPECT(READ_PACKETS(1, table, damaged, 22, 1880, 2, 2) == S3_PARITY && at(next, 2, 512) && reported(S3_NO_STUFF, 29545));
     memcpy(damaged, slot1, sizeof damaged);
     flip(damaged, 176);
     new_parity(damaged, ROWS_1, table1);
-    EXPECT(READ_PACKETS(2, table, damaged, 22, 1880, 1, 2) == S3_BCH && at(next, 3, 512) && report[0] == S3_NO_STUFF);
+    EXPECT(READ_PACKETS(2, table, damaged, 22, 1880, 2, 2) == S3_BCH && at(next, 3, 512) && refused_report());
     EXPECT(untouched(header, sizeof header) && untouched(back, sizeof back));
     memcpy(damaged, slot1, sizeof damaged);
     put_stuff(damaged, ROWS_1, table1, 0);
-    EXPECT(READ_PACKETS(3, table, damaged, 22, 1880, 1, 2) == S3_ACCEPTED && at(next, 4, 512) && report[0] == 0);
+    EXPECT(READ_PACKETS(3, table, damaged, 22, 1880, 2, 2) == S3_ACCEPTED && at(next, 4, 512));
+    EXPECT(reported(0, S3_NO_POSITION));
     EXPECT(memcmp(header, header1, sizeof header) == 0 && memcmp(back, packets1, sizeof back) == 0);
-    EXPECT(READ_PACKETS(1, table, slot1, 22, 1880, 1, 2) == S3_ACCEPTED && at(next, 2, 512) && report[0] == S3_STUFF_ONES);
+    EXPECT(READ_PACKETS(1, table, slot1, 22, 1880, 2, 2) == S3_ACCEPTED && at(next, 2, 512));
+    EXPECT(reported(S3_STUFF_ONES, S3_NO_POSITION));
     EXPECT(memcmp(header, header1, sizeof header) == 0 && memcmp(back, packets1, sizeof back) == 0);
-    EXPECT(report[1] == FOUND);
+}
+
+/* The lowest position that a bit before the parity reaches through a table: its row's addresses, m steps on. */
+static uint32_t lowest_reached(size_t rows, const uint16_t *row, size_t before)
+{
+    const size_t step = 120 - rows, m = before % 374;
+    uint32_t found = S3_NO_POSITION;
+    for (size_t r = before / 374; r > 0; r--) row += 1 + row[0];
+    for (size_t k = 1; k <= row[0]; k++) {
+        const uint32_t reached = (uint32_t)((row[k] + m * step) % (374 * step));
+        if (reached < found) found = reached;
+    }
+    return found;
+}
+
+/* Slot1 with these bits the other way: the lone check and both readers tell the same position. */
+static int broken_at(const size_t *bits, size_t count, uint32_t failing)
+{
+    static uint8_t damaged[S3_SLOT_OCTETS], back[SOURCE_1], header[S3_HEADER_OCTETS], octets[sizeof packets1];
+    uint32_t next[2];
+    const size_t plan = sizeof lowest, table = COUNT(table1);
+    memcpy(damaged, slot1, sizeof damaged);
+    for (size_t k = 0; k < count; k++) flip(damaged, bits[k]);
+    if (CHECK(1, table, damaged, 5610, 1) != S3_PARITY || !failing_at(failing)) return 0;
+    put_report();
+    if (s3_read_slot(lowest, plan, mask, start, 9, 1, table1, table, damaged, sizeof damaged, back, sizeof back, report,
+                     S3_REPORT, next, S3_NEXT) != S3_PARITY || !reported(S3_NO_STUFF, failing)) return 0;
+    put_report();
+    return s3_read_packets(lowest, plan, mask, start, 9, 1, table1, table, damaged, sizeof damaged, header, sizeof header,
+                           octets, sizeof octets, report, S3_REPORT, next, S3_NEXT) == S3_PARITY
+        && reported(S3_NO_STUFF, failing);
+}
+
+/* Slot1 has 374 * 41 bits before 29,546 parity bits; of its row 0 the lowest address is 625. */
+static void where_parity_broke(void)
+{
+    enum { BEFORE = 374 * ROWS_1, LAST = 8 * S3_SLOT_OCTETS - 1 };
+    static const size_t alone[] = {0, 1, 2, 14773, 29544, 29545};
+    static const size_t before[] = {0, 175, 176, 373, 374, 8 * SOURCE_1 - 1, 8 * SOURCE_1, BEFORE - 7, BEFORE - 6, BEFORE - 1};
+    for (size_t k = 0; k < COUNT(alone); k++) {
+        const size_t first = BEFORE + alone[k], all[] = {LAST, first, BEFORE + 20000};
+        EXPECT(broken_at(&first, 1, (uint32_t)alone[k]));
+        EXPECT(broken_at(all, COUNT(all), alone[k] < 20000 ? (uint32_t)alone[k] : 20000));
+    }
+    EXPECT(lowest_reached(ROWS_1, table1, 0) == 625);
+    for (size_t k = 0; k < COUNT(before); k++) {
+        const uint32_t reached = lowest_reached(ROWS_1, table1, before[k]);
+        const size_t below[] = {before[k], BEFORE + reached - 1}, same[] = {before[k], BEFORE + reached};
+        EXPECT(broken_at(before + k, 1, reached) && broken_at(below, 2, reached - 1));
+        EXPECT(broken_at(same, 2, reached + 1)); /* both turn this one, and the bit before the parity the next */
+    }
 }
 
 static uint8_t sources[MIXED_SOURCE], frame[S3_FRAME_OCTETS];
@@ -468,67 +573,160 @@ static void coding_a_frame(void)
     EXPECT(from == MIXED_SOURCE);
 }
 
-static void reading_a_frame(void)
+/* What is damaged in the frame that is read, a bit of each slot, with the parity made anew for 9; and what must be told of the
+ * slot. They are neighbours, the last data slots of both groups, and a dummy. */
+static const struct damage { uint32_t slot, answer, bit, failing; } frame_damage[] = {
+    {1, S3_PARITY, 374 * ROWS_7, 0},
+    {2, S3_PARITY, 0, 521}, /* the lowest address of row 0 */
+    {3, S3_PARITY, 8 * S3_SLOT_OCTETS - 1, 374 * 27 - 1},
+    {4, S3_BCH, 0, S3_NO_POSITION},
+    {92, S3_PARITY, 374 * ROWS_7 + 700, 700},
+    {93, S3_DUMMY, 374 * ROWS_7 + 700, S3_NO_POSITION},
+    {117, S3_PARITY, 8 * S3_SLOT_OCTETS - 1, 374 * 59 - 1},
+};
+
+static struct damage damage_of(uint32_t slot)
 {
-    static uint8_t back[MIXED_SOURCE], answers[S3_SLOTS], stuff[S3_SLOTS + 1];
-    unsigned right = 0;
-    memset(back, FOUND, sizeof back);
-    memset(answers, FOUND, sizeof answers);
-    memset(stuff, FOUND, sizeof stuff);
-#define READ_FRAME(tables_length, room, count, stuff_count)                                                            \
-    s3_read_frame(mixed, sizeof mixed, mask, start, tables, tables_length, frame, sizeof frame, back, room, answers,   \
-                  count, stuff, stuff_count)
-    EXPECT(READ_FRAME(COUNT(tables) - 1, MIXED_SOURCE, 119, 120) == S3_LENGTH);
-    EXPECT(READ_FRAME(COUNT(tables) - 1, MIXED_SOURCE - 1, 120, 120) == S3_LENGTH);
-    EXPECT(READ_FRAME(COUNT(tables) - 1, MIXED_SOURCE, 120, 0) == S3_LENGTH);
-    EXPECT(READ_FRAME(COUNT(tables) - 1, MIXED_SOURCE, 120, 119) == S3_LENGTH);
-    EXPECT(READ_FRAME(COUNT(tables) - 1, MIXED_SOURCE, 120, 121) == S3_LENGTH);
-    EXPECT(READ_FRAME(COUNT(tables) - 1, MIXED_SOURCE, 120, 120) == S3_TABLE);
-    EXPECT(untouched(back, sizeof back) && untouched(answers, sizeof answers) && untouched(stuff, sizeof stuff));
-    flip(frame, 8 * S3_SLOT_OCTETS * 3 - 1);
+    for (size_t k = 0; k < COUNT(frame_damage); k++) {
+        if (frame_damage[k].slot == slot) return frame_damage[k];
+    }
+    return (struct damage){slot, slot <= 92 || slot == 116 ? S3_ACCEPTED : S3_DUMMY, 0, S3_NO_POSITION};
+}
+
+static uint8_t frame_back[MIXED_SOURCE], frame_answers[S3_SLOTS], frame_stuff[S3_SLOTS + 1];
+static uint16_t frame_positions[S3_SLOTS + 1];
+
+#define READ_FRAME(mask, tables_length, room, count, stuff_count, positions_count)                                      \
+    s3_read_frame(mixed, sizeof mixed, mask, start, tables, tables_length, frame, sizeof frame, frame_back, room,       \
+                  frame_answers, count, frame_stuff, stuff_count, frame_positions, positions_count)
+
+static void refusing_a_frame(void)
+{
+    static const size_t wrong[] = {0, 1, 119, 121};
+    memset(frame_back, FOUND, sizeof frame_back);
+    memset(frame_answers, FOUND, sizeof frame_answers);
+    memset(frame_stuff, FOUND, sizeof frame_stuff);
+    memset(frame_positions, FOUND, sizeof frame_positions);
+    EXPECT(READ_FRAME(mask, COUNT(tables) - 1, MIXED_SOURCE, 119, 120, 120) == S3_LENGTH);
+    EXPECT(READ_FRAME(mask, COUNT(tables) - 1, MIXED_SOURCE - 1, 120, 120, 120) == S3_LENGTH);
+    for (size_t k = 0; k < COUNT(wrong); k++) {
+        EXPECT(READ_FRAME(mask, COUNT(tables) - 1, MIXED_SOURCE, 120, wrong[k], 120) == S3_LENGTH);
+        EXPECT(READ_FRAME(mask, COUNT(tables) - 1, MIXED_SOURCE, 120, 120, wrong[k]) == S3_LENGTH);
+        EXPECT(READ_FRAME(mask, COUNT(tables), MIXED_SOURCE, 120, 120, wrong[k]) == S3_LENGTH);
+        EXPECT(READ_FRAME(0, COUNT(tables), MIXED_SOURCE, 120, 120, wrong[k]) == S3_REGISTER);
+    }
+    EXPECT(READ_FRAME(mask, COUNT(tables) - 1, MIXED_SOURCE, 120, 120, 120) == S3_TABLE);
+    EXPECT(READ_FRAME(0, COUNT(tables), MIXED_SOURCE, 120, 120, 120) == S3_REGISTER);
+    EXPECT(untouched(frame_back, sizeof frame_back) && untouched(frame_answers, sizeof frame_answers));
+    EXPECT(untouched(frame_stuff, sizeof frame_stuff) && untouched((const uint8_t *)frame_positions, sizeof frame_positions));
+}
+
+/* Damages the frame, some stuff bits of which are others too. */
+static void damage_frame(void)
+{
     put_stuff(frame + 4 * S3_SLOT_OCTETS, ROWS_7, tables, 31);
     put_stuff(frame + 115 * S3_SLOT_OCTETS, ROWS_3, table3, 0);
-    EXPECT(READ_FRAME(COUNT(tables), MIXED_SOURCE, 120, 120) == S3_ACCEPTED);
-    for (uint32_t s = 1; s <= S3_SLOTS; s++) {
-        const uint32_t answer = s == 3 ? S3_PARITY : s <= 92 || s == 116 || s == 117 ? S3_ACCEPTED : S3_DUMMY;
-        const uint32_t bits = s == 5 ? 31 : s == 116 ? 0 : S3_STUFF_ONES;
-        right += answers[s - 1] == answer && stuff[s - 1] == (answer == S3_ACCEPTED ? bits : S3_NO_STUFF);
+    for (size_t k = 0; k < COUNT(frame_damage); k++) {
+        uint8_t *const part = frame + S3_SLOT_OCTETS * (frame_damage[k].slot - 1);
+        flip(part, frame_damage[k].bit);
+        if (frame_damage[k].answer == S3_BCH) new_parity(part, ROWS_7, tables);
     }
-    EXPECT(right == S3_SLOTS && stuff[S3_SLOTS] == FOUND);
-    EXPECT(untouched(back + 2 * SOURCE_7, SOURCE_7));
-    memcpy(back + 2 * SOURCE_7, sources + 2 * SOURCE_7, SOURCE_7);
-    EXPECT(memcmp(back, sources, sizeof back) == 0);
+}
+
+/* The areas are as refusing_a_frame left them. */
+static void reading_a_frame(void)
+{
+    unsigned right = 0;
+    damage_frame();
+    EXPECT(READ_FRAME(mask, COUNT(tables), MIXED_SOURCE, 120, 120, 120) == S3_ACCEPTED);
+    for (uint32_t s = 1; s <= S3_SLOTS; s++) {
+        const struct damage told = damage_of(s);
+        const uint32_t bits = told.answer != S3_ACCEPTED ? S3_NO_STUFF : s == 5 ? 31 : s == 116 ? 0 : S3_STUFF_ONES;
+        right += frame_answers[s - 1] == told.answer && frame_stuff[s - 1] == bits && frame_positions[s - 1] == told.failing;
+    }
+    EXPECT(right == S3_SLOTS && frame_stuff[S3_SLOTS] == FOUND);
+    EXPECT(untouched((const uint8_t *)(frame_positions + S3_SLOTS), sizeof *frame_positions));
+    for (size_t k = 0; k < COUNT(frame_damage); k++) {
+        const size_t s = frame_damage[k].slot, from = s <= 92 ? SOURCE_7 * (s - 1) : MIXED_SOURCE - SOURCE_3;
+        const size_t octets = s <= 92 ? SOURCE_7 : s == 117 ? SOURCE_3 : 0;
+        EXPECT(untouched(frame_back + from, octets));
+        memcpy(frame_back + from, sources + from, octets);
+    }
+    EXPECT(memcmp(frame_back, sources, sizeof frame_back) == 0);
 }
 
 static uint8_t block[S3_BLOCK_OCTETS];
 
-static void tmcc(void)
+static uint8_t tmcc[S3_TMCC_OCTETS];
+
+static void coding_a_block(void)
 {
-    static uint8_t source[S3_TMCC_OCTETS], back[S3_TMCC_OCTETS];
     const size_t table = COUNT(table3);
-    fill(source, sizeof source);
-    source[S3_TMCC_OCTETS - 1] |= 3;
+    fill(tmcc, sizeof tmcc);
+    tmcc[S3_TMCC_OCTETS - 1] |= 3;
     memset(block, FOUND, sizeof block);
-    memset(back, FOUND, sizeof back);
-#define CODE_TMCC(mask, length, octets, room) s3_code_tmcc(mask, start, table3, length, source, octets, block, room)
+#define CODE_TMCC(mask, length, octets, room) s3_code_tmcc(mask, start, table3, length, tmcc, octets, block, room)
     EXPECT(CODE_TMCC(mask, table - 1, S3_TMCC_OCTETS - 1, S3_BLOCK_OCTETS) == S3_REGISTER);
     EXPECT(CODE_TMCC(block_mask, table - 1, S3_TMCC_OCTETS - 1, S3_BLOCK_OCTETS) == S3_LENGTH);
     EXPECT(CODE_TMCC(block_mask, table - 1, S3_TMCC_OCTETS, S3_BLOCK_OCTETS - 1) == S3_LENGTH);
     EXPECT(CODE_TMCC(block_mask, table - 1, S3_TMCC_OCTETS, S3_BLOCK_OCTETS) == S3_TABLE);
     EXPECT(CODE_TMCC(block_mask, table, S3_TMCC_OCTETS, S3_BLOCK_OCTETS) == S3_TAIL);
     EXPECT(untouched(block, sizeof block));
-    source[S3_TMCC_OCTETS - 1] &= 0xFC;
+    tmcc[S3_TMCC_OCTETS - 1] &= 0xFC;
     EXPECT(CODE_TMCC(block_mask, table, S3_TMCC_OCTETS, S3_BLOCK_OCTETS) == S3_ACCEPTED);
-#define READ_TMCC(start, room) s3_read_tmcc(block_mask, start, table3, table, block, sizeof block, back, room)
-    EXPECT(READ_TMCC(0, S3_TMCC_OCTETS) == S3_REGISTER);
-    EXPECT(READ_TMCC(1, S3_TMCC_OCTETS - 1) == S3_LENGTH);
-    EXPECT(READ_TMCC(2, S3_TMCC_OCTETS) == S3_BCH); /* another start: the parity is right all the same */
-    flip(block, 31679);
-    EXPECT(READ_TMCC(1, S3_TMCC_OCTETS) == S3_PARITY);
+}
+
+static void reading_a_block(void)
+{
+    static uint8_t back[S3_TMCC_OCTETS];
+    const size_t table = COUNT(table3);
+    memset(back, FOUND, sizeof back);
+#define READ_TMCC(start, length, octets, room, count)                                                              \
+    (position[0] = position[1] = FOUND,                                                                            \
+     s3_read_tmcc(block_mask, start, table3, length, block, octets, back, room, position, count))
+    EXPECT(READ_TMCC(0, table, S3_BLOCK_OCTETS, S3_TMCC_OCTETS, 1) == S3_REGISTER && failing_at(S3_NO_POSITION));
+    EXPECT(READ_TMCC(1, table - 1, S3_BLOCK_OCTETS, S3_TMCC_OCTETS - 1, 1) == S3_LENGTH && failing_at(S3_NO_POSITION));
+    EXPECT(READ_TMCC(1, table - 1, S3_BLOCK_OCTETS - 1, S3_TMCC_OCTETS, 1) == S3_LENGTH && failing_at(S3_NO_POSITION));
+    for (size_t count = 0; count <= COUNT(position); count += 2) {
+        EXPECT(READ_TMCC(0, table, S3_BLOCK_OCTETS, S3_TMCC_OCTETS, count) == S3_REGISTER && failing_at(FOUND));
+        EXPECT(READ_TMCC(1, table, S3_BLOCK_OCTETS, S3_TMCC_OCTETS, count) == S3_LENGTH && failing_at(FOUND));
+        EXPECT(READ_TMCC(1, table - 1, S3_BLOCK_OCTETS, S3_TMCC_OCTETS, count) == S3_LENGTH && failing_at(FOUND));
+    }
+    EXPECT(READ_TMCC(1, table - 1, S3_BLOCK_OCTETS, S3_TMCC_OCTETS, 1) == S3_TABLE && failing_at(S3_NO_POSITION));
+    /* Another start: the parity is right all the same. */
+    EXPECT(READ_TMCC(2, table, S3_BLOCK_OCTETS, S3_TMCC_OCTETS, 1) == S3_BCH && failing_at(S3_NO_POSITION));
     EXPECT(untouched(back, sizeof back));
-    flip(block, 31679);
-    EXPECT(READ_TMCC(1, S3_TMCC_OCTETS) == S3_ACCEPTED);
-    EXPECT(memcmp(back, source, sizeof back) == 0);
+    EXPECT(READ_TMCC(1, table, S3_BLOCK_OCTETS, S3_TMCC_OCTETS, 1) == S3_ACCEPTED && failing_at(S3_NO_POSITION));
+    EXPECT(memcmp(back, tmcc, sizeof back) == 0);
+}
+
+/* Whether the block with these two bits the other way breaks at this position; the block itself is sound. */
+static int block_broken_at(size_t one, size_t other, uint32_t failing)
+{
+    static uint8_t damaged[S3_BLOCK_OCTETS], back[S3_TMCC_OCTETS];
+    memcpy(damaged, block, sizeof damaged);
+    memset(back, FOUND, sizeof back);
+    position[0] = position[1] = FOUND;
+    flip(damaged, one);
+    if (other != one) flip(damaged, other);
+    return s3_read_tmcc(block_mask, start, table3, COUNT(table3), damaged, sizeof damaged, back, sizeof back, position,
+                        S3_POSITION) == S3_PARITY
+        && failing_at(failing) && untouched(back, sizeof back);
+}
+
+/* A block's 9,614 bits stand behind 1,870 zeros of the parity input, and before 22,066 parity bits. */
+static void where_a_block_broke(void)
+{
+    static const size_t alone[] = {0, 1, 11033, 22065}, before[] = {0, 1, 373, 374, 9421, 9422, 9613};
+    for (size_t k = 0; k < COUNT(alone); k++) {
+        EXPECT(block_broken_at(9614 + alone[k], 31679, (uint32_t)alone[k]));
+    }
+    for (size_t k = 0; k < COUNT(before); k++) {
+        const uint32_t reached = lowest_reached(ROWS_3, table3, 1870 + before[k]);
+        EXPECT(block_broken_at(before[k], before[k], reached));
+        EXPECT(block_broken_at(before[k], 9614 + reached - 1, reached - 1));
+        EXPECT(block_broken_at(before[k], 9614 + reached, reached + 1));
+    }
 }
 
 static void symbols(void)
@@ -1323,9 +1521,13 @@ int main(void)
     reading_stuff_bits();
     coding_packets();
     reading_packets();
+    where_parity_broke();
     coding_a_frame();
+    refusing_a_frame();
     reading_a_frame();
-    tmcc();
+    coding_a_block();
+    reading_a_block();
+    where_a_block_broke();
     symbols();
     block_symbols();
     points_of_all_labels();

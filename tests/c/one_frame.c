@@ -1,5 +1,5 @@
-/* Codes one frame of 32APSK 7/8 in all 120 slots, damages a slot, reads the frame back and prints how often each answer
- * came. */
+/* Codes one frame of 32APSK 7/8 in all 120 slots, damages a slot, reads the frame back and prints how often each answer came,
+ * and where the parity of the damaged slot broke. */
 #include <stdio.h>
 #include <stdlib.h>
 
@@ -8,6 +8,7 @@
 static uint16_t tables[S3_MOST_TABLE];
 static uint8_t source[S3_SLOTS * S3_MOST_SOURCE], back[S3_SLOTS * S3_MOST_SOURCE];
 static uint8_t frame[S3_FRAME_OCTETS], answers[S3_SLOTS], stuff[S3_SLOTS];
+static uint16_t positions[S3_SLOTS];
 
 static void accepted(uint32_t number) {
     if (number != S3_ACCEPTED) {
@@ -28,10 +29,12 @@ int main(void) {
     accepted(s3_code_frame(plan, sizeof plan, mask, start, tables, entries, source, octets, frame, S3_FRAME_OCTETS));
     frame[S3_SLOT_OCTETS] ^= 1; /* slot 2 */
     accepted(s3_read_frame(plan, sizeof plan, mask, start, tables, entries, frame, S3_FRAME_OCTETS, back, octets, answers,
-                           S3_SLOTS, stuff, S3_SLOTS));
+                           S3_SLOTS, stuff, S3_SLOTS, positions, S3_SLOTS));
 
     for (size_t k = 0; k < S3_SLOTS; k++)
         counts[answers[k]]++;
-    printf("%u slots read, %u with wrong parity\n", counts[S3_ACCEPTED], counts[S3_PARITY]);
-    return counts[S3_ACCEPTED] != 119 || counts[S3_PARITY] != 1 || stuff[0] != S3_STUFF_ONES || stuff[1] != S3_NO_STUFF;
+    printf("%u slots read, %u with wrong parity, first at position %u\n", counts[S3_ACCEPTED], counts[S3_PARITY],
+           (unsigned)positions[1]);
+    return counts[S3_ACCEPTED] != 119 || counts[S3_PARITY] != 1 || stuff[0] != S3_STUFF_ONES || stuff[1] != S3_NO_STUFF
+        || positions[0] != S3_NO_POSITION;
 }

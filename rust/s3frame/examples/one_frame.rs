@@ -1,9 +1,10 @@
 //! Codes one frame of document 01's worked plan with the published parity tables, damages two slots, reads the frame back and
-//! prints how often each answer came.
+//! prints how often each answer came, and where parity broke.
 //!
 //!     cargo run --release --offline --example one_frame
-use s3frame::{code_frame, read_frame, Group, Modulation, Plan, Rate, Refusal, SlotAnswer, SlotSettings, StuffBits};
+use s3frame::{code_frame, read_frame, Group, Modulation, Plan, Rate, Refusal, SlotAnswer, SlotSettings};
 use s3frame::{FRAME_OCTETS, SLOT_OCTETS};
+use std::collections::BTreeMap;
 
 const GROUPS: [Group; 2] = [
     Group { modulation: Modulation::Apsk16, rate: Rate::R7_9, slots: 115 },
@@ -18,16 +19,22 @@ fn meaning(answer: SlotAnswer) -> (u32, &'static str) {
     match answer {
         SlotAnswer::Read(_) => (0, "read"),
         SlotAnswer::Dummy => (Refusal::Dummy.number(), Refusal::Dummy.word()),
-        SlotAnswer::Refused(refusal) => (refusal.number(), refusal.word()),
+        SlotAnswer::Refused(refused) => (refused.refusal.number(), refused.refusal.word()),
     }
 }
 
-fn print_counts(answers: &[SlotAnswer]) {
-    let refused = [Refusal::Parity, Refusal::Bch].map(SlotAnswer::Refused);
-    for answer in [SlotAnswer::Read(StuffBits::ONES), SlotAnswer::Dummy].into_iter().chain(refused) {
-        let (number, word) = meaning(answer);
-        let count = answers.iter().filter(|&&other| meaning(other).0 == number).count();
+fn print_answers(answers: &[SlotAnswer]) {
+    let mut counts = BTreeMap::new();
+    for &answer in answers {
+        *counts.entry(meaning(answer)).or_insert(0) += 1;
+    }
+    for ((number, word), count) in counts {
         println!("answer {number:2} {word:6} {count:3} slots");
+    }
+    for (slot, answer) in (1..).zip(answers) {
+        if let SlotAnswer::Refused(refused) = answer {
+            println!("slot {slot} {refused}");
+        }
     }
 }
 
@@ -44,7 +51,7 @@ fn main() -> Result<(), Refusal> {
 
     let mut back = vec![0; source.len()];
     let read = read_frame(&plan, SETTINGS, &tables, &frame, &mut back)?;
-    print_counts(&read.answers);
+    print_answers(&read.answers);
     let same = back.iter().zip(&source).filter(|(read, coded)| read == coded).count();
     println!("{same} of {} octets came back", source.len());
     Ok(())

@@ -55,8 +55,15 @@ extern "C" {
         next: *mut u32,
         next_length: usize,
     ) -> u32;
-    fn s3_check_parity(rate: u32, table: *const u16, table_length: usize, coded: *const u8, coded_length: usize)
-        -> u32;
+    fn s3_check_parity(
+        rate: u32,
+        table: *const u16,
+        table_length: usize,
+        coded: *const u8,
+        coded_length: usize,
+        position: *mut u16,
+        position_length: usize,
+    ) -> u32;
     fn s3_code_frame(
         plan: *const u8,
         plan_length: usize,
@@ -84,6 +91,8 @@ extern "C" {
         answers_length: usize,
         stuff: *mut u8,
         stuff_length: usize,
+        positions: *mut u16,
+        positions_length: usize,
     ) -> u32;
     fn s3_code_tmcc(
         mask: u32,
@@ -104,6 +113,8 @@ extern "C" {
         block_length: usize,
         source: *mut u8,
         source_length: usize,
+        position: *mut u16,
+        position_length: usize,
     ) -> u32;
     fn s3_labels(
         modulation: u32,
@@ -300,8 +311,8 @@ pub fn code_slot(at: At, table: &[u16], source: &[u8], coded: &mut [u8], next: &
     }
 }
 
-/// Reads a slot; 8 and 9 move on. Every answer writes a `report` of one number: the stuff bits, or 255 with a refusal.
-/// Numbers: 1, 13, 14, 15, 6, 3, 2, 4, 5, 8, 9.
+/// Reads a slot; 8 and 9 move on. Every answer writes a `report` of two numbers: the stuff bits, or 255 with a refusal; and
+/// with 8 the lowest failing parity position, else 65535. Numbers: 1, 13, 14, 15, 6, 3, 2, 4, 5, 8, 9.
 pub fn read_slot(at: At, table: &[u16], coded: &[u8], source: &mut [u8], report: &mut [u16], next: &mut [u32]) -> u32 {
     let At { plan, mask, start, slot, register } = at;
     unsafe {
@@ -387,9 +398,20 @@ pub fn read_packets(
     }
 }
 
-/// Checks the parity of a slot. Numbers: 1, 4, 5, 8.
-pub fn check_parity(rate: u32, table: &[u16], coded: &[u8]) -> u32 {
-    unsafe { s3_check_parity(rate, table.as_ptr(), table.len(), coded.as_ptr(), coded.len()) }
+/// Checks the parity of a slot. Every answer writes a `position` of one number: with 8 the lowest failing parity position, else
+/// 65535. Numbers: 1, 4, 5, 8.
+pub fn check_parity(rate: u32, table: &[u16], coded: &[u8], position: &mut [u16]) -> u32 {
+    unsafe {
+        s3_check_parity(
+            rate,
+            table.as_ptr(),
+            table.len(),
+            coded.as_ptr(),
+            coded.len(),
+            position.as_mut_ptr(),
+            position.len(),
+        )
+    }
 }
 
 /// Codes a whole frame. Numbers: 1, 13, 14, 15, 6, 4, 5.
@@ -410,7 +432,8 @@ pub fn code_frame(plan: &[u8], mask: u32, start: u32, tables: &[u16], source: &[
     }
 }
 
-/// Reads a whole frame. `stuff` holds 255 for a slot whose answer isn't 0. Numbers: 1, 13, 14, 15, 6, 4, 5.
+/// Reads a whole frame. `stuff` holds 255 for a slot whose answer isn't 0, `positions` 65535 for one whose answer isn't 8.
+/// Numbers: 1, 13, 14, 15, 6, 4, 5.
 #[allow(clippy::too_many_arguments)] // those of the call
 pub fn read_frame(
     plan: &[u8],
@@ -421,6 +444,7 @@ pub fn read_frame(
     source: &mut [u8],
     answers: &mut [u8],
     stuff: &mut [u8],
+    positions: &mut [u16],
 ) -> u32 {
     unsafe {
         s3_read_frame(
@@ -438,6 +462,8 @@ pub fn read_frame(
             answers.len(),
             stuff.as_mut_ptr(),
             stuff.len(),
+            positions.as_mut_ptr(),
+            positions.len(),
         )
     }
 }
@@ -458,8 +484,8 @@ pub fn code_tmcc(mask: u32, start: u32, table: &[u16], source: &[u8], block: &mu
     }
 }
 
-/// Reads a TMCC block. Numbers: 6, 4, 5, 8, 9.
-pub fn read_tmcc(mask: u32, start: u32, table: &[u16], block: &[u8], source: &mut [u8]) -> u32 {
+/// Reads a TMCC block. Every answer writes a `position` as in [`check_parity`]. Numbers: 6, 4, 5, 8, 9.
+pub fn read_tmcc(mask: u32, start: u32, table: &[u16], block: &[u8], source: &mut [u8], position: &mut [u16]) -> u32 {
     unsafe {
         s3_read_tmcc(
             mask,
@@ -470,6 +496,8 @@ pub fn read_tmcc(mask: u32, start: u32, table: &[u16], block: &[u8], source: &mu
             block.len(),
             source.as_mut_ptr(),
             source.len(),
+            position.as_mut_ptr(),
+            position.len(),
         )
     }
 }

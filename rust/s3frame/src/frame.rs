@@ -1,6 +1,7 @@
 //! A whole frame in one area.
+use crate::read_refusal::read_answer;
 use crate::refusal::answer;
-use crate::{calls, Plan, Refusal, SlotSettings, StuffBits, SLOTS};
+use crate::{calls, Plan, ReadRefusal, Refusal, SlotSettings, StuffBits, SLOTS};
 use std::array;
 
 /// What became of a slot of a frame that was read.
@@ -10,16 +11,16 @@ pub enum SlotAnswer {
     Read(StuffBits),
     /// It is a dummy, and has no places.
     Dummy,
-    /// [`Refusal::Parity`] or [`Refusal::Bch`]: its places are as they were.
-    Refused(Refusal),
+    /// [`Refusal::Parity`], with its position, or [`Refusal::Bch`]: its places are as they were.
+    Refused(ReadRefusal),
 }
 
 impl SlotAnswer {
-    fn of_octets(number: u8, stuff: u8) -> SlotAnswer {
-        match answer(number.into()) {
+    fn of_numbers(number: u8, stuff: u8, position: u16) -> SlotAnswer {
+        match read_answer(number.into(), position) {
             Ok(()) => SlotAnswer::Read(StuffBits::of_number(stuff)),
-            Err(Refusal::Dummy) => SlotAnswer::Dummy,
-            Err(refusal) => SlotAnswer::Refused(refusal),
+            Err(ReadRefusal { refusal: Refusal::Dummy, .. }) => SlotAnswer::Dummy,
+            Err(refused) => SlotAnswer::Refused(refused),
         }
     }
 }
@@ -57,8 +58,19 @@ pub fn read_frame(
     frame: &[u8],
     source: &mut [u8],
 ) -> Result<FrameRead, Refusal> {
-    let (mut answers, mut stuff) = ([0; SLOTS], [0; SLOTS]);
+    let (mut answers, mut stuff, mut positions) = ([0; SLOTS], [0; SLOTS], [0; SLOTS]);
     let SlotSettings { mask, start } = settings;
-    answer(calls::read_frame(plan.octets(), mask, start, tables, frame, source, &mut answers, &mut stuff))?;
-    Ok(FrameRead { answers: array::from_fn(|slot| SlotAnswer::of_octets(answers[slot], stuff[slot])) })
+    answer(calls::read_frame(
+        plan.octets(),
+        mask,
+        start,
+        tables,
+        frame,
+        source,
+        &mut answers,
+        &mut stuff,
+        &mut positions,
+    ))?;
+    let told = |slot: usize| SlotAnswer::of_numbers(answers[slot], stuff[slot], positions[slot]);
+    Ok(FrameRead { answers: array::from_fn(told) })
 }

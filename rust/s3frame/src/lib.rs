@@ -2,12 +2,12 @@
 //!
 //! The work is done by an archive of functions that are proved for every input; this crate puts types around them, and
 //! computes nothing of a slot itself. Every area is lent by the caller and must have exactly the length that is said; a
-//! refusal changes no lent area, and says by its word ([`Refusal`]) what was wrong.
+//! refusal changes no lent area, and says by its word ([`Refusal`]) what was wrong, and where parity broke ([`ReadRefusal`]).
 //!
 //! ```
-//! use s3frame::{FrameState, Group, Modulation, Plan, Rate, SlotSettings, StuffBits};
+//! use s3frame::{FrameState, Group, Modulation, Plan, Rate, Refusal, SlotSettings, StuffBits};
 //!
-//! # fn main() -> Result<(), s3frame::Refusal> {
+//! # fn main() -> Result<(), Refusal> {
 //! let plan = Plan::new(&[
 //!     Group { modulation: Modulation::Apsk16, rate: Rate::R7_9, slots: 115 },
 //!     Group { modulation: Modulation::Qpsk, rate: Rate::R1_2, slots: 5 },
@@ -24,6 +24,10 @@
 //! let read = opened.read_slot(&table, &slot, &mut back);
 //! assert_eq!((read.answer, read.state), (Ok(StuffBits::ONES), next));
 //! assert_eq!(back, source);
+//!
+//! slot[s3frame::SLOT_OCTETS - 1] ^= 1; // the last parity bit
+//! let refused = opened.read_slot(&table, &slot, &mut back).answer.expect_err("a wrong parity");
+//! assert_eq!((refused.refusal, refused.position), (Refusal::Parity, Some(10_097)));
 //! # Ok(())
 //! # }
 //! ```
@@ -40,6 +44,7 @@ mod packets;
 mod plan;
 mod points;
 mod rate;
+mod read_refusal;
 mod refusal;
 mod settings;
 mod state;
@@ -58,6 +63,7 @@ pub use packets::{pack, unpack};
 pub use plan::{Group, Place, Plan};
 pub use points::{ArrangedRegister, Constellation, Point};
 pub use rate::Rate;
+pub use read_refusal::ReadRefusal;
 pub use refusal::Refusal;
 pub use settings::{read_settings, replace_settings, Settings};
 pub use state::{check_parity, FrameState, SlotRead, SlotSettings};

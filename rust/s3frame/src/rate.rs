@@ -1,7 +1,7 @@
 //! Rates, and the lengths that they fix.
 use crate::numbered::numbered;
 use crate::refusal::answer;
-use crate::{calls, HEADER_OCTETS, PACKET_OCTETS};
+use crate::{calls, HEADER_OCTETS, PACKET_OCTETS, SLOT_OCTETS};
 use std::fmt;
 
 numbered! {
@@ -20,6 +20,10 @@ numbered! {
         R9_10 = 11 "9/10",
     }
 }
+
+/// The bits of a slot between data and parity.
+const BCH_BITS: usize = 192;
+const STUFF_BITS: usize = 6;
 
 impl Rate {
     /// How many TS packets a slot carries.
@@ -40,6 +44,11 @@ impl Rate {
     /// The octets of header and data, from which a slot is coded.
     pub fn source_octets(self) -> usize {
         HEADER_OCTETS + self.data_octets()
+    }
+
+    /// The parity bits of a slot: all that aren't header, data, BCH and stuff bits. A failing position is below this.
+    pub fn parity_bits(self) -> usize {
+        8 * (SLOT_OCTETS - self.source_octets()) - BCH_BITS - STUFF_BITS
     }
 
     /// The entries of the published parity table.
@@ -84,5 +93,6 @@ mod tests {
         assert_eq!(ends(Rate::packet_octets), [1_880, 5_076]);
         assert_eq!(ends(Rate::data_octets), [1_870, 5_049]);
         assert_eq!(ends(Rate::source_octets), [1_892, 5_071]);
+        assert_eq!(ends(Rate::parity_bits), [29_546, 4_114]);
     }
 }

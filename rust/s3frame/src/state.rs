@@ -1,7 +1,8 @@
 //! A frame slot by slot.
 use crate::calls::{self, At};
+use crate::read_refusal::read_answer;
 use crate::refusal::answer;
-use crate::{Plan, Rate, Refusal, StuffBits};
+use crate::{Plan, Rate, ReadRefusal, Refusal, StuffBits};
 
 /// The settings of the 25-bit dispersal register of slots.
 #[derive(Clone, Copy, Debug, PartialEq, Eq, Hash)]
@@ -29,8 +30,8 @@ pub struct FrameState {
 #[non_exhaustive]
 #[must_use]
 pub struct SlotRead {
-    /// The stuff bits of the slot that was read, or why it was not.
-    pub answer: Result<StuffBits, Refusal>,
+    /// The stuff bits of the slot that was read, or why it was not, and where its parity broke.
+    pub answer: Result<StuffBits, ReadRefusal>,
     /// Moved on by one slot where the slot was read or refused [`Refusal::Parity`] or [`Refusal::Bch`]; as it was before any
     /// other refusal.
     pub state: FrameState,
@@ -71,27 +72,28 @@ impl FrameState {
         self.register
     }
 
-    /// The answer of a call on the next slot, and the state after it. The call itself leaves `next` as found where the state
+    /// The number of a call on the next slot, and the state after it. The call itself leaves `next` as found where the state
     /// stays.
-    fn called(self, call: impl FnOnce(At<'_>, &mut [u32]) -> u32) -> (Result<(), Refusal>, FrameState) {
+    fn called(self, call: impl FnOnce(At<'_>, &mut [u32]) -> u32) -> (u32, FrameState) {
         let FrameState { ref plan, settings: SlotSettings { mask, start }, slot, register } = self;
         let mut next = [slot, register];
         let number = call(At { plan: plan.octets(), mask, start, slot, register }, &mut next);
-        (answer(number), FrameState { slot: next[0], register: next[1], ..self })
+        (number, FrameState { slot: next[0], register: next[1], ..self })
     }
 
     /// The state moved on, or the refusal, of a call that stays wherever it is refused.
     fn moved(self, call: impl FnOnce(At<'_>, &mut [u32]) -> u32) -> Result<FrameState, Refusal> {
-        let (answer, state) = self.called(call);
-        answer.map(|()| state)
+        let (number, state) = self.called(call);
+        answer(number).map(|()| state)
     }
 
     /// What a call that reads the next slot gives.
     fn read(self, call: impl FnOnce(At<'_>, &mut [u16], &mut [u32]) -> u32) -> SlotRead {
-        let mut report = [0];
-        let (answer, state) = self.called(|at, next| call(at, &mut report, next));
-        let stuff = |()| StuffBits::of_number(u8::try_from(report[0]).expect("six bits"));
-        SlotRead { answer: answer.map(stuff), state }
+        let mut report = [0; 2];
+        let (number, state) = self.called(|at, next| call(at, &mut report, next));
+        let [stuff, position] = report;
+        let stuff_bits = |()| StuffBits::of_number(u8::try_from(stuff).expect("six bits"));
+        SlotRead { answer: read_answer(number, position).map(stuff_bits), state }
     }
 
     /// Passes a dummy.
@@ -144,6 +146,8 @@ impl FrameState {
 /// Checks the parity of a slot of a rate, [`SLOT_OCTETS`](crate::SLOT_OCTETS), whatever its dispersal.
 ///
 /// Refused: [`Refusal::Length`], [`Refusal::Table`], [`Refusal::Parity`].
-pub fn check_parity(rate: Rate, table: &[u16], coded: &[u8]) -> Result<(), Refusal> {
-    answer(calls::check_parity(rate.number(), table, coded))
+pub fn check_parity(rate: Rate, table: &[u16], coded: &[u8]) -> Result<(), ReadRefusal> {
+    let mut position = [0];
+    let number = calls::check_parity(rate.number(), table, coded, &mut position);
+    read_answer(number, position[0])
 }

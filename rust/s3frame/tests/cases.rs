@@ -41,7 +41,8 @@ fn a_damaged_slot_leaves_the_state_where_a_good_one_does() {
     let (next, _) = coded(second, Rate::R2_3, &source);
     let mut back = vec![0; source.len()];
     let read = first.read_slot(&Rate::R2_3.published_table(), &damaged(&slot, 0), &mut back);
-    assert_eq!((read.answer, read.state), (Err(Refusal::Parity), second));
+    let refused = read.answer.expect_err("a wrong parity");
+    assert_eq!((refused.refusal, refused.position, read.state), (Refusal::Parity, Some(4958), second));
     let read = read.state.read_slot(&Rate::R2_3.published_table(), &next, &mut back);
     assert_eq!(read.answer, Ok(StuffBits::ONES));
     assert_eq!(back, source);

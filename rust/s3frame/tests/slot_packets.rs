@@ -1,6 +1,7 @@
 //! Slots of header and packets beside the second implementation.
 mod common;
-use common::{code, groups, number, number_and_stuff, place, stuffed, trials, twin, Random};
+use common::words::NO_POSITION;
+use common::{code, groups, number, place, stuffed, told, trials, twin, Random, Told, DUMMY};
 use reference::calls;
 use s3frame::{pack, FrameState, Modulation, Rate, Refusal, HEADER_OCTETS, SLOT_OCTETS};
 
@@ -42,22 +43,16 @@ fn coded(random: &mut Random, state: FrameState, table: &[u16], sent: &Carried) 
     (ours, after)
 }
 
-/// Reads a slot both ways and compares; gives number and stuff bits, what was read and the state after it.
-fn read(
-    random: &mut Random,
-    state: FrameState,
-    table: &[u16],
-    slot: &[u8],
-    rate: Rate,
-) -> ((u32, u16), Carried, FrameState) {
+/// Reads a slot both ways and compares; gives what is told of it, what was read and the state after it.
+fn read(random: &mut Random, state: FrameState, table: &[u16], slot: &[u8], rate: Rate) -> (Told, Carried, FrameState) {
     let found = Carried::found(random, rate);
     let [mut ours, mut theirs] = [found.clone(), found.clone()];
-    let (groups, mut report, mut next) = (groups(state.plan()), [0], place(&state));
+    let (groups, mut report, mut next) = (groups(state.plan()), [0; 2], place(&state));
     let (twin, Carried { header, packets }) = (twin(&groups, &state), &mut theirs);
     let expected = calls::read_packets(&twin, table, slot, header, packets, &mut report, &mut next);
     let read = state.read_packets(table, slot, &mut ours.header, &mut ours.packets);
-    let told = number_and_stuff(read.answer);
-    assert_eq!(told, (expected.into(), report[0]));
+    let told = told(read.answer);
+    assert_eq!((told.0, [told.1.into(), told.2]), (expected, report));
     assert_eq!(place(&read.state), next);
     assert!(ours == theirs, "what was read differs");
     assert!(expected == 0 || ours == found, "a refused slot writes nothing");
@@ -79,11 +74,12 @@ fn slot_of(random: &mut Random, modulation: Modulation, rate: Rate) {
     let sent = Carried::new(random, rate);
     let (slot, after) = coded(random, state, &table, &sent);
     assert!((slot.clone(), after) == packed_and_coded(state, rate, &table, &sent));
-    assert!(read(random, state, &table, &slot, rate) == ((0, 63), sent, after), "header and packets come back");
+    let expected = ((0, 63, NO_POSITION), sent, after);
+    assert!(read(random, state, &table, &slot, rate) == expected, "header and packets come back");
     for damage in [8, 9] {
-        let slot = random.damaged(&code(rate, &table), &slot, damage);
+        let (slot, position) = random.damaged(&code(rate, &table), &slot, damage);
         let (told, _, moved) = read(random, state, &table, &slot, rate);
-        assert_eq!((told, moved), ((damage.into(), 255), after), "the state after damage is that after a good slot");
+        assert_eq!((told, moved), ((damage, 255, position), after), "the state after damage is that after a good slot");
     }
 }
 
@@ -111,7 +107,7 @@ fn every_number_of_stuff_bits() {
         for stuff in 0..64 {
             let other = stuffed(&code(rate, &table), &slot, stuff);
             let (told, back, moved) = read(&mut random, state, &table, &other, rate);
-            assert_eq!((told, moved), ((0, stuff.into()), after));
+            assert_eq!((told, moved), ((0, stuff, NO_POSITION), after));
             assert!(back == sent, "header and packets come back, whatever the stuff bits");
             let (again, _) = coded(&mut random, state, &table, &back);
             assert!(again == slot);
@@ -161,5 +157,5 @@ fn a_dummy_carries_no_packets() {
     let state = FrameState::at(plan, sound.settings(), dummy.expect("BPSK has dummies"), sound.register());
     assert_eq!(state.code_packets(&[], &[], &[], &mut []), Err(Refusal::Dummy));
     let read = state.read_packets(&[], &[], &mut [], &mut []);
-    assert_eq!((read.answer, read.state), (Err(Refusal::Dummy), state));
+    assert_eq!((told(read.answer), read.state), (DUMMY, state));
 }

@@ -1,6 +1,7 @@
 //! Slots, one call at a time, beside the second implementation.
 mod common;
-use common::{code, groups, number, number_and_stuff, place, stuffed, trials, twin, Random};
+use common::words::{Word, NO_POSITION};
+use common::{code, groups, number_and_position, place, stuffed, told, trials, twin, Random, Told};
 use reference::slot::{bits_of, octets_of, Code, WIDTH};
 use reference::{calls, dispersal, ldpc, vectors};
 use s3frame::{FrameState, Group, Modulation, Plan, Rate, Refusal, SlotSettings, SLOT_OCTETS};
@@ -18,32 +19,33 @@ fn coded(random: &mut Random, state: FrameState, table: &[u16], source: &[u8]) -
     (ours, after)
 }
 
-/// Reads a slot both ways and compares; gives number and stuff bits, the octets and the state after it.
+/// Reads a slot both ways and compares; gives what is told of it, the octets and the state after it.
 fn read(
     random: &mut Random,
     state: FrameState,
     table: &[u16],
     slot: &[u8],
     count: usize,
-) -> ((u32, u16), Vec<u8>, FrameState) {
+) -> (Told, Vec<u8>, FrameState) {
     let found = random.octets(count);
     let [mut ours, mut theirs] = [found.clone(), found.clone()];
-    let (mut report, mut next) = ([0], place(&state));
+    let (mut report, mut next) = ([0; 2], place(&state));
     let groups = groups(state.plan());
     let expected = calls::read_slot(&twin(&groups, &state), table, slot, &mut theirs, &mut report, &mut next);
     let read = state.read_slot(table, slot, &mut ours);
-    let told = number_and_stuff(read.answer);
-    assert_eq!(told, (expected.into(), report[0]));
+    let told = told(read.answer);
+    assert_eq!((told.0, [told.1.into(), told.2]), (expected, report));
     assert_eq!(place(&read.state), next);
     assert!(ours == theirs, "what was read differs");
     assert!(expected == 0 || ours == found, "a refused slot writes nothing");
     (told, ours, read.state)
 }
 
-/// Checks a slot's parity both ways and compares.
-fn checked(rate: Rate, table: &[u16], slot: &[u8]) -> u32 {
-    let ours = number(s3frame::check_parity(rate, table, slot));
-    assert_eq!(ours, u32::from(calls::check_parity(rate as usize, table, slot)));
+/// Checks a slot's parity both ways and compares; gives number and failing position.
+fn checked(rate: Rate, table: &[u16], slot: &[u8]) -> (u8, u16) {
+    let (ours, mut position) = (number_and_position(s3frame::check_parity(rate, table, slot)), [0]);
+    let expected = calls::check_parity(rate as usize, table, slot, &mut position);
+    assert_eq!(ours, (expected, position[0]));
     ours
 }
 
@@ -55,14 +57,15 @@ fn slot_of(random: &mut Random, modulation: Modulation, rate: Rate) -> usize {
 
     let (slot, after) = coded(random, state, &table, &source);
     for (slot, stuff) in [(stuffed(&code, &slot, stuff), stuff), (slot.clone(), 63)] {
-        assert_eq!(checked(rate, &table, &slot), 0);
-        assert_eq!(read(random, state, &table, &slot, source.len()), ((0, stuff.into()), source.clone(), after));
+        assert_eq!(checked(rate, &table, &slot), (0, NO_POSITION));
+        let expected = ((0, stuff, NO_POSITION), source.clone(), after);
+        assert_eq!(read(random, state, &table, &slot, source.len()), expected);
     }
     for damage in [8, 9] {
-        let slot = random.damaged(&code, &slot, damage);
+        let (slot, position) = random.damaged(&code, &slot, damage);
         let (told, _, moved) = read(random, state, &table, &slot, source.len());
-        assert_eq!((told, moved), ((damage.into(), 255), after), "the state after damage is that after a good slot");
-        assert_eq!(checked(rate, &table, &slot), if damage == 8 { 8 } else { 0 });
+        assert_eq!((told, moved), ((damage, 255, position), after), "the state after damage is that after a good slot");
+        assert_eq!(checked(rate, &table, &slot), (if damage == 8 { 8 } else { 0 }, position));
     }
     5
 }
@@ -89,19 +92,22 @@ fn damaged_parts_of(random: &mut Random, rate: Rate) {
     let plan = Plan::new(&[group]).expect("a plan that keeps the rules");
     let table = rate.published_table();
     let code = code(rate, &table);
+    let word = Word::slot(&code);
     let mut state = FrameState::open(plan, random.slot_settings()).expect("settings that are allowed");
     for _ in 1..=2 {
         let source = random.source(rate.source_octets());
         let (slot, after) = coded(random, state, &table, &source);
         let bch = source.len();
         let parts = [(0, (9, 255)), (bch, (9, 255)), (bch + 24, (0, 31)), (SLOT_OCTETS - 1, (0, 63))];
-        for (octet, told_anew) in parts {
+        for (octet, (number, stuff)) in parts {
             let as_sent = vectors::damaged(&slot, octet);
             let anew = vectors::with_parity_anew(&code, &as_sent);
-            for (slot, expected, check) in [(as_sent, (8, 255), 8), (anew, told_anew, 0)] {
+            let lowest = word.lowest_failing(&[8 * octet]).expect("a position that one bit breaks");
+            let expected = [(as_sent, (8, 255, lowest), 8), (anew, (number, stuff, NO_POSITION), 0)];
+            for (slot, expected, check) in expected {
                 let (told, _, moved) = read(random, state, &table, &slot, bch);
                 assert_eq!((told, moved), (expected, after));
-                assert_eq!(checked(rate, &table, &slot), check);
+                assert_eq!(checked(rate, &table, &slot), (check, told.2));
             }
         }
         state = after;
@@ -138,7 +144,7 @@ fn stuff_numbers_of(random: &mut Random, modulation: Modulation, rate: Rate) {
     for stuff in 0..64 {
         let slot = stuffed(&code, &sent, stuff);
         let (told, back, moved) = read(random, state, &table, &slot, source.len());
-        assert_eq!((told, moved), ((0, stuff.into()), after));
+        assert_eq!((told, moved), ((0, stuff, NO_POSITION), after));
         assert!(back == source, "header and data come back, whatever the stuff bits");
         let (again, _) = coded(random, state, &table, &back);
         assert!(again == with_ones(&state, &code, &slot), "ones are coded, and their parity");
@@ -182,11 +188,11 @@ fn frame_of(random: &mut Random) -> usize {
         let mut slot = vec![0; SLOT_OCTETS];
         coder = coder.code_slot(table, &source[from..to], &mut slot).expect("a slot that is coded");
         assert!(slot == part, "slot {} differs from the whole frame's", coder.slot() - 1);
-        let (slot, (expected, stuff)) = random.received(&code(place.rate, table), &slot);
+        let (slot, expected) = random.received(&code(place.rate, table), &slot);
         let mut back = vec![0; to - from];
         let read = reader.read_slot(table, &slot, &mut back);
-        assert_eq!(number_and_stuff(read.answer), (expected.into(), stuff.into()));
-        assert!(expected != 0 || back == source[from..to]);
+        assert_eq!(told(read.answer), expected);
+        assert!(expected.0 != 0 || back == source[from..to]);
         (reader, from, calls) = (read.state, to, calls + 2);
         assert_eq!(reader, coder);
     }
@@ -221,7 +227,7 @@ fn a_refused_state_stays() {
         let (mut coded, mut back) = (found.clone(), source.to_vec());
         assert_eq!(state.code_slot(table, source, &mut coded), Err(refusal));
         let read = state.read_slot(table, &found, &mut back);
-        assert_eq!((read.answer, read.state), (Err(refusal), state));
+        assert_eq!((told(read.answer), read.state), ((refusal as u8, 255, NO_POSITION), state));
         assert!(coded == found && back == source);
     }
     assert_eq!(state(slot, register).pass(), Err(Refusal::Dummy));

@@ -1,11 +1,11 @@
 //! Calls on a plan and at a place of a frame, with the refusals of documents 01 and 02 in their order: a state handed in is
-//! tested anew, and the next slot and register go into a lent area of two numbers, the stuff bits that are read into one of
-//! one number.
+//! tested anew, and the next slot and register go into a lent area of two numbers, the stuff bits that are read and the lowest
+//! failing parity position into another.
 use crate::dispersal::allowed;
 use crate::plan::{self, Group, Place, SLOTS};
-use crate::slot::{self, Code, DUMMY, FULL, LENGTH_WRONG, NO_STUFF, PARITY_WRONG};
+use crate::slot::{self, Code, Refused, DUMMY, FULL, LENGTH_WRONG, NO_STUFF};
 use crate::slot::{PLAN_WRONG, REGISTER_WRONG, TABLE_WRONG};
-use crate::{ldpc, packets, tables, vectors};
+use crate::{ldpc, packets, tables};
 
 /// The header octets of a slot.
 const HEADER: usize = 22;
@@ -54,7 +54,8 @@ impl State<'_> {
     }
 
     /// Reads the next slot where the lengths of what is read hold too. A slot that fails a check moves the state on all the
-    /// same, and every answer writes a report of one number: the stuff bits, 255 with a refusal.
+    /// same, and every answer writes a report of two numbers: the stuff bits, 255 with a refusal; and with 8 the lowest failing
+    /// parity position, else 65535.
     fn read(
         &self,
         table: &[u16],
@@ -63,16 +64,18 @@ impl State<'_> {
         next: &mut [u32],
         lengths_hold: impl Fn(&Group) -> bool,
     ) -> Result<slot::Read, u8> {
-        let fixed = [coded.len(), report.len(), next.len()] == [slot::OCTETS, 1, 2];
-        let read = self.accept(table, |group| fixed && lengths_hold(group)).and_then(|code| {
+        let fixed = [coded.len(), report.len(), next.len()] == [slot::OCTETS, 2, 2];
+        let code = self.accept(table, |group| fixed && lengths_hold(group)).map_err(Refused::from);
+        let read = code.and_then(|code| {
             let (read, register) = slot::read_slot(&code, self.mask, self.register, coded);
             next.copy_from_slice(&[self.slot + 1, register]);
             read
         });
-        if let [stuff] = report {
+        if let [stuff, position] = report {
             *stuff = read.as_ref().map_or(NO_STUFF, |read| read.stuff).into();
+            (_, *position) = Refused::told(&read);
         }
-        read
+        read.map_err(|refused| refused.number)
     }
 }
 
@@ -210,24 +213,25 @@ pub fn read_packets(
     }))
 }
 
-/// The lone parity check.
-pub fn check_parity(rate: usize, table: &[u16], coded: &[u8]) -> u8 {
-    number((|| {
+/// The lone parity check. Every answer writes a position of one number: with 8 the lowest failing one, else 65535.
+pub fn check_parity(rate: usize, table: &[u16], coded: &[u8], position: &mut [u16]) -> u8 {
+    let checked = (|| {
         let rows = *ldpc::ROWS.get(rate.wrapping_sub(1)).ok_or(PLAN_WRONG)?;
-        if coded.len() != slot::OCTETS {
-            return Err(LENGTH_WRONG);
+        if [coded.len(), position.len()] != [slot::OCTETS, 1] {
+            return Err(Refused::from(LENGTH_WRONG));
         }
-        let code = code_of(rows, table)?;
-        let holds = vectors::with_parity_anew(&code, coded) == coded;
-        if holds { Ok(()) } else { Err(PARITY_WRONG) }
-    })())
+        slot::check_parity(&code_of(rows, table)?, coded)
+    })();
+    Refused::tell(&checked, position)
 }
 
 #[cfg(test)]
 mod tests {
     use super::*;
     use crate::samples::{octets, MASK, START};
+    use crate::slot::PARITY_WRONG;
     use crate::tables::printed;
+    use crate::vectors::with_parity_anew;
 
     fn state(plan: &[Group], slot: u32, register: u32) -> State<'_> {
         State { plan, mask: MASK, start: START, slot, register }
@@ -291,14 +295,30 @@ mod tests {
         let (mut coded, mut next) = (vec![0; slot::OCTETS], [0, 0]);
         assert_eq!(code_slot(&state(&plan, 120, 5), &table, &source, &mut coded, &mut next), 0);
         let after = next;
-        coded[0] ^= 1;
-        let (mut found, mut report) = (octets(2, source.len()), [7]);
+        coded[slot::OCTETS - 1] ^= 1;
+        let (mut found, mut report) = (octets(2, source.len()), [7, 7]);
         next = [0, 0];
         assert_eq!(read_slot(&state(&plan, 120, 5), &table, &coded, &mut found, &mut report, &mut next), PARITY_WRONG);
-        assert_eq!((next, next[0], report), (after, 121, [255]));
+        assert_eq!((next, next[0], report), (after, 121, [255, 4113]));
         assert_eq!(found, octets(2, source.len()));
-        assert_eq!(check_parity(11, &table, &coded), PARITY_WRONG);
-        assert_eq!([check_parity(0, &table, &coded), check_parity(12, &table, &coded)], [1, 1]);
+    }
+
+    #[test]
+    fn the_lone_check_tells_a_position_with_every_answer() {
+        let code = code_of(41, &printed([1])).expect("a printed table");
+        let (sound, table) = (with_parity_anew(&code, &octets(1, slot::OCTETS)), printed([1]));
+        let mut broken = sound.clone();
+        broken[slot::OCTETS - 1] ^= 0x81;
+        let checked = |rate, table: &[u16], coded: &[u8], length| {
+            let mut position = vec![7; length];
+            (check_parity(rate, table, coded, &mut position), position)
+        };
+        assert_eq!(checked(1, &table, &sound, 1), (0, vec![65535]));
+        assert_eq!(checked(1, &table, &broken, 1), (8, vec![29545 - 7]));
+        assert_eq!(checked(1, &table[1..], &broken, 1), (5, vec![65535]));
+        assert_eq!(checked(1, &table[1..], &broken[1..], 1), (4, vec![65535]));
+        assert_eq!([checked(1, &[], &broken, 0), checked(1, &[], &broken, 2)], [(4, vec![]), (4, vec![7, 7])]);
+        assert_eq!([checked(0, &[], &[], 1), checked(12, &[], &[], 2)], [(1, vec![65535]), (1, vec![7, 7])]);
     }
 
     #[test]
@@ -312,10 +332,15 @@ mod tests {
         let source = [&header[..], &data].concat();
         assert_eq!((slot.clone(), next[1]), slot::code_slot(&code, MASK, 5, &source));
 
-        let (mut head, mut back, mut report, mut moved) = (vec![0; HEADER], vec![0; 1880], [7], [0, 0]);
+        let (mut head, mut back, mut report, mut moved) = (vec![0; HEADER], vec![0; 1880], [7, 7], [0, 0]);
         let at = state(&plan, 1, 5);
         assert_eq!(read_packets(&at, &table, &slot, &mut head, &mut back, &mut report, &mut moved), 0);
-        assert_eq!((head, back, report, moved), (header, packets, [63], next));
+        assert_eq!((head, back, report, moved), (header, packets, [63, 65535], next));
+
+        slot[slot::OCTETS - 1] ^= 2;
+        let (mut head, mut back) = (vec![0; HEADER], vec![0; 1880]);
+        assert_eq!(read_packets(&at, &table, &slot, &mut head, &mut back, &mut report, &mut moved), PARITY_WRONG);
+        assert_eq!((report, moved), ([255, 29544], next));
     }
 
     /// The number of reading a slot of zeros, which no coder sends, into areas of these lengths, and the areas of report and
@@ -329,17 +354,18 @@ mod tests {
     }
 
     #[test]
-    fn every_refusal_reports_255_where_the_report_has_its_length() {
-        let table = printed([1]);
-        assert_eq!(read_into(&table, 0, [1892, 1, 2]), (1, vec![255], vec![7, 7]));
-        assert_eq!(read_into(&table, 121, [1892, 2, 2]), (3, vec![7, 7], vec![7, 7]));
+    fn every_refusal_but_8_reports_255_and_65535_where_the_report_has_its_length() {
+        let (table, none) = (printed([1]), || vec![255, 65535]);
+        assert_eq!(read_into(&table, 0, [1892, 2, 2]), (1, none(), vec![7, 7]));
+        assert_eq!(read_into(&table, 121, [1892, 1, 2]), (3, vec![7], vec![7, 7]));
         assert_eq!(read_into(&[], 1, [1892, 0, 2]), (4, vec![], vec![7, 7]));
-        assert_eq!(read_into(&[], 1, [1892, 2, 2]), (4, vec![7, 7], vec![7, 7]));
-        assert_eq!(read_into(&[], 1, [1891, 1, 2]), (4, vec![255], vec![7, 7]));
-        assert_eq!(read_into(&[], 1, [1892, 1, 3]), (4, vec![255], vec![7, 7, 7]));
-        assert_eq!(read_into(&[], 1, [1892, 1, 2]), (5, vec![255], vec![7, 7]));
-        let (number, report, next) = read_into(&table, 1, [1892, 1, 2]);
-        assert_eq!((number, report, next[0]), (9, vec![255], 2));
+        assert_eq!(read_into(&[], 1, [1892, 1, 2]), (4, vec![7], vec![7, 7]));
+        assert_eq!(read_into(&[], 1, [1892, 3, 2]), (4, vec![7, 7, 7], vec![7, 7]));
+        assert_eq!(read_into(&[], 1, [1891, 2, 2]), (4, none(), vec![7, 7]));
+        assert_eq!(read_into(&[], 1, [1892, 2, 3]), (4, none(), vec![7, 7, 7]));
+        assert_eq!(read_into(&[], 1, [1892, 2, 2]), (5, none(), vec![7, 7]));
+        let (number, report, next) = read_into(&table, 1, [1892, 2, 2]);
+        assert_eq!((number, report, next[0]), (9, none(), 2));
     }
 
     #[test]

@@ -27,11 +27,13 @@ fn coded_frame(plan: &[Group], source: &[u8]) -> (u8, Vec<u8>) {
     (number, area)
 }
 
-/// The number of reading a frame, and the areas of answers, stuff bits and source after it, all filled before.
-fn read_frame(plan: &[Group], coded: &[u8]) -> (u8, [Vec<u8>; 3]) {
+/// The number of reading a frame, and the areas of answers, stuff bits and source after it, and that of positions, all filled
+/// before.
+fn read_frame(plan: &[Group], coded: &[u8]) -> (u8, [Vec<u8>; 3], Vec<u16>) {
+    let (tables, mut positions) = (lent_tables(plan), vec![11; SLOTS]);
     let (mut answers, mut stuff, mut source) = (vec![11; SLOTS], vec![11; SLOTS], octets(9, plan::source_octets(plan)));
-    let number = frame::read(plan, MASK, START, &lent_tables(plan), coded, &mut source, &mut answers, &mut stuff);
-    (number, [answers, stuff, source])
+    let number = frame::read(plan, MASK, START, &tables, coded, &mut source, &mut answers, &mut stuff, &mut positions);
+    (number, [answers, stuff, source], positions)
 }
 
 /// A frame with the first bits of a few slots turned round, be they data slots or dummies.
@@ -40,7 +42,7 @@ fn damaged_frame(coded: &[u8]) -> Vec<u8> {
 }
 
 fn print_read(title: &str, plan: &[Group], coded: &[u8]) {
-    let (number, areas) = read_frame(plan, coded);
+    let (number, areas, _) = read_frame(plan, coded);
     let [answers, stuff, source] = areas.map(|octets| digest(&octets));
     println!("{title} read {number} answers {answers} stuff {stuff} digest {source}");
 }
@@ -63,7 +65,9 @@ pub fn print() {
 #[cfg(test)]
 mod tests {
     use super::*;
-    use crate::slot::{DUMMY, NO_STUFF, PARITY_WRONG};
+    use crate::ldpc;
+    use crate::slot::{DUMMY, NO_POSITION, NO_STUFF, PARITY_WRONG};
+    use crate::tables::tables;
 
     #[test]
     fn the_plans_are_accepted() {
@@ -72,12 +76,22 @@ mod tests {
         assert!(plans.iter().all(|plan| plan::accept(plan).is_ok()));
     }
 
-    /// The answers and the source read of a frame whose slots were sent with six ones.
+    /// The lowest position that bit 0 of a slot of a rate reaches.
+    fn reached_by_bit_0(rate: usize) -> u16 {
+        let table = &tables()[rate - 1];
+        let positions = table[0].iter().map(|&address| ldpc::position(table.len(), address, 0));
+        positions.min().expect("a row has addresses") as u16
+    }
+
+    /// The answers and the source read of a frame whose slots were sent with six ones; of a damaged one bit 0 alone is wrong.
     fn answers_and_source(plan: &[Group], coded: &[u8]) -> (Vec<u8>, Vec<u8>) {
-        let (number, [answers, stuff, source]) = read_frame(plan, coded);
+        let (number, [answers, stuff, source], positions) = read_frame(plan, coded);
         assert_eq!(number, 0);
         let ones = |answer: &u8| if *answer == 0 { 63 } else { NO_STUFF };
         assert_eq!(stuff, answers.iter().map(ones).collect::<Vec<_>>());
+        let lowest = reached_by_bit_0(plan[0].rate);
+        let position = |answer: &u8| if *answer == PARITY_WRONG { lowest } else { NO_POSITION };
+        assert_eq!(positions, answers.iter().map(position).collect::<Vec<_>>());
         (answers, source)
     }
 

@@ -8,6 +8,9 @@ pub const WIDTH: u32 = 25;
 /// What stands for the stuff bits of a slot that is refused.
 pub const NO_STUFF: u8 = 255;
 
+/// What stands for the failing position where parity is not what is refused.
+pub const NO_POSITION: u16 = 65535;
+
 /// Refusals of documents 01 and 02.
 pub const PLAN_WRONG: u8 = 1;
 pub const DUMMY: u8 = 2;
@@ -85,21 +88,63 @@ pub struct Read {
     pub stuff: u8,
 }
 
-/// What is read of a slot, or the number of the first check that fails, and the register after it in each case.
-pub fn read_slot(code: &Code, mask: u32, register: u32, coded: &[u8]) -> (Result<Read, u8>, u32) {
+/// Why something is refused: a number, and with that of parity the lowest failing position, else 65535.
+#[derive(Clone, Copy, Debug, PartialEq)]
+pub struct Refused {
+    pub number: u8,
+    pub position: u16,
+}
+
+impl Refused {
+    /// The number and the position of an answer; 0 is the number of one that is accepted.
+    pub fn told<T>(answer: &Result<T, Refused>) -> (u8, u16) {
+        answer.as_ref().err().map_or((0, NO_POSITION), |refused| (refused.number, refused.position))
+    }
+
+    /// Writes the position of an answer where its area has one number, and gives the answer's number.
+    pub fn tell<T>(answer: &Result<T, Refused>, area: &mut [u16]) -> u8 {
+        let (number, position) = Refused::told(answer);
+        if let [place] = area {
+            *place = position;
+        }
+        number
+    }
+}
+
+/// A refusal other than that of parity.
+impl From<u8> for Refused {
+    fn from(number: u8) -> Refused {
+        Refused { number, position: NO_POSITION }
+    }
+}
+
+/// Parity bits that were received beside those that are made anew.
+pub fn compare_parity(made: &[u8], received: &[u8]) -> Result<(), Refused> {
+    let refused = |position| Refused { number: PARITY_WRONG, position };
+    ldpc::lowest_failing(made, received).map_or(Ok(()), |position| Err(refused(position)))
+}
+
+/// The parity check of a slot, whatever its dispersal.
+pub fn check_parity(code: &Code, coded: &[u8]) -> Result<(), Refused> {
+    let bits = bits_of(coded);
+    let (before, received) = bits.split_at(code.dispersed_bits());
+    compare_parity(&ldpc::parity(&code.table, before), received)
+}
+
+/// What is read of a slot, or the first check that fails, and the register after it in each case.
+pub fn read_slot(code: &Code, mask: u32, register: u32, coded: &[u8]) -> (Result<Read, Refused>, u32) {
     let mut bits = bits_of(coded);
     let parity = bits.split_off(code.dispersed_bits());
-    let parity_holds = ldpc::parity(&code.table, &bits) == parity;
+    let checked = compare_parity(&ldpc::parity(&code.table, &bits), &parity);
     let after = dispersal::disperse(WIDTH, mask, register, &mut bits);
     let (message, checks) = bits.split_at(code.message_bits());
     let (received, stuff) = checks.split_at(bch::BITS);
-    let read = if !parity_holds {
-        Err(PARITY_WRONG)
-    } else if bch::bch_bits(&code.generator, message) != received {
-        Err(BCH_WRONG)
-    } else {
+    let read = checked.and_then(|()| {
+        if bch::bch_bits(&code.generator, message) != received {
+            return Err(BCH_WRONG.into());
+        }
         Ok(Read { source: octets_of(message), stuff: number_of(stuff) })
-    };
+    });
     (read, after)
 }
 
@@ -107,6 +152,7 @@ pub fn read_slot(code: &Code, mask: u32, register: u32, coded: &[u8]) -> (Result
 mod tests {
     use super::*;
     use crate::tables::tables;
+    use crate::vectors::with_parity_anew;
 
     #[test]
     fn the_lengths_of_table_2_2_1_1() {
@@ -138,7 +184,7 @@ mod tests {
     }
 
     /// What reading a slot of zeros and these stuff bits gives, and whether coding that gives the slot.
-    fn read_and_coded(stuff: [u8; 6]) -> (Result<Read, u8>, bool) {
+    fn read_and_coded(stuff: [u8; 6]) -> (Result<Read, Refused>, bool) {
         let code = Code::new(tables().swap_remove(0));
         let (mask, register) = (1 << 24 | 1, 1);
         let mut bits = [&vec![0; code.message_bits() + bch::BITS][..], &stuff].concat();
@@ -158,5 +204,53 @@ mod tests {
         assert_eq!(read_and_coded([1, 0, 0, 0, 0, 0]), (read(32), false));
         assert_eq!(read_and_coded([0, 0, 0, 0, 0, 1]), (read(1), false));
         assert_eq!(read_and_coded([1; 6]), (read(63), true));
+    }
+
+    /// What reading a slot of a rate gives where these of its bits are the other ones; the lone parity check must agree.
+    fn read_wrong(rate: usize, wrong: &[usize], parity_anew: bool) -> Result<Read, Refused> {
+        let code = Code::new(tables().swap_remove(rate - 1));
+        let (coded, after) = code_slot(&code, 1 << 24 | 1, 1, &vec![0x5a; code.message_bits() / 8]);
+        let mut bits = bits_of(&coded);
+        wrong.iter().for_each(|&bit| bits[bit] ^= 1);
+        let mut slot = octets_of(&bits);
+        if parity_anew {
+            slot = with_parity_anew(&code, &slot);
+        }
+        let (read, moved) = read_slot(&code, 1 << 24 | 1, 1, &slot);
+        assert_eq!(moved, after);
+        let of_parity = read.as_ref().err().copied().filter(|refused| refused.number == 8);
+        assert_eq!(check_parity(&code, &slot).err(), of_parity);
+        read
+    }
+
+    #[test]
+    fn a_wrong_parity_bit_is_counted_from_the_first() {
+        for (rate, parity) in [(1, 29546), (3, 22066), (11, 4114)] {
+            for position in [0, 1, parity / 2, parity - 1] {
+                let read = read_wrong(rate, &[8 * OCTETS - parity + position], false);
+                assert_eq!(read, Err(Refused { number: 8, position: position as u16 }));
+            }
+        }
+    }
+
+    /// At rate 5 bit 0 reaches 4958 first, and so turns every parity bit from there on to the next that it reaches.
+    #[test]
+    fn the_lowest_of_several_positions() {
+        let (parity, at) = (ldpc::GROUP * 81, |position| Err(Refused { number: 8, position }));
+        assert_eq!(read_wrong(5, &[8 * OCTETS - 1, parity + 900, parity + 17], false), at(17));
+        assert_eq!(read_wrong(5, &[0], false), at(4958));
+        assert_eq!(read_wrong(5, &[parity + 4957, 0], false), at(4957));
+        assert_eq!(read_wrong(5, &[parity + 4958, 0], false), at(4959));
+    }
+
+    #[test]
+    fn other_answers_have_no_position() {
+        let bch_wrong = Err(Refused { number: 9, position: 65535 });
+        let code = Code::new(tables().swap_remove(4));
+        for wrong in [0, code.message_bits(), code.dispersed_bits() - 7] {
+            assert_eq!(read_wrong(5, &[wrong], true), bch_wrong);
+        }
+        let read = read_wrong(5, &[code.dispersed_bits() - 1], true);
+        assert_eq!((Refused::told(&read), read.map(|read| read.stuff)), ((0, 65535), Ok(62)));
     }
 }

@@ -1,7 +1,7 @@
 //! The TMCC block of document 002, 2.2.1.5: TMCC bits, their BCH bits, and the rate 3 parity of both as they lie, once
 //! dispersed, between zeros that are not sent.
-use crate::slot::{bits_of, octets_of, Code};
-use crate::slot::{BCH_WRONG, LENGTH_WRONG, PARITY_WRONG, REGISTER_WRONG, TABLE_WRONG, TAIL_WRONG};
+use crate::slot::{bits_of, compare_parity, octets_of, Code, Refused};
+use crate::slot::{BCH_WRONG, LENGTH_WRONG, REGISTER_WRONG, TABLE_WRONG, TAIL_WRONG};
 use crate::{bch, dispersal, ldpc, tables};
 
 pub const RATE: usize = 3;
@@ -29,10 +29,10 @@ fn code_bits(code: &Code, mask: u32, start: u32, tmcc: &[u8]) -> (Vec<u8>, u32) 
 }
 
 /// The code of rate 3, or the first refusal that coding and reading share.
-fn accept(mask: u32, start: u32, table: &[u16], source: &[u8], block: &[u8]) -> Result<Code, u8> {
+fn accept(mask: u32, start: u32, table: &[u16], lengths_hold: bool) -> Result<Code, u8> {
     if !dispersal::allowed(WIDTH, mask, start) {
         Err(REGISTER_WRONG)
-    } else if source.len() != SOURCE_OCTETS || block.len() != OCTETS {
+    } else if !lengths_hold {
         Err(LENGTH_WRONG)
     } else {
         let tables = tables::taken(&[ldpc::ROWS[RATE - 1]], table).ok_or(TABLE_WRONG)?;
@@ -42,7 +42,7 @@ fn accept(mask: u32, start: u32, table: &[u16], source: &[u8], block: &[u8]) -> 
 
 /// Codes the block of the source's 9,422 bits, after which the source has two zeros.
 pub fn code(mask: u32, start: u32, table: &[u16], source: &[u8], block: &mut [u8]) -> u8 {
-    let code = match accept(mask, start, table, source, block) {
+    let code = match accept(mask, start, table, source.len() == SOURCE_OCTETS && block.len() == OCTETS) {
         Ok(code) => code,
         Err(number) => return number,
     };
@@ -56,24 +56,30 @@ pub fn code(mask: u32, start: u32, table: &[u16], source: &[u8], block: &mut [u8
     0
 }
 
-/// Reads a block whose checks hold into the source, its last two bits zeros.
-pub fn read(mask: u32, start: u32, table: &[u16], block: &[u8], source: &mut [u8]) -> u8 {
-    let code = match accept(mask, start, table, source, block) {
-        Ok(code) => code,
-        Err(number) => return number,
-    };
+/// The TMCC bits of a block whose checks hold.
+fn read_bits(code: &Code, mask: u32, start: u32, block: &[u8]) -> Result<Vec<u8>, Refused> {
     let mut bits = bits_of(block);
-    let sent_parity = bits.split_off(DISPERSED_BITS);
-    if parity(&code.table, &bits) != sent_parity {
-        return PARITY_WRONG;
-    }
+    let received = bits.split_off(DISPERSED_BITS);
+    compare_parity(&parity(&code.table, &bits), &received)?;
     dispersal::disperse(WIDTH, mask, start, &mut bits);
-    let (tmcc, checks) = bits.split_at(BITS);
-    if bch::bch_bits(&code.generator, tmcc) != checks {
-        return BCH_WRONG;
+    let checks = bits.split_off(BITS);
+    if bch::bch_bits(&code.generator, &bits) != checks {
+        return Err(BCH_WRONG.into());
     }
-    source.copy_from_slice(&octets_of(&[tmcc, &[0, 0]].concat()));
-    0
+    Ok(bits)
+}
+
+/// Reads a block whose checks hold into the source, its last two bits zeros. Every answer writes a position of one number: with
+/// 8 the lowest failing one among the 22,066 parity bits, else 65535.
+pub fn read(mask: u32, start: u32, table: &[u16], block: &[u8], source: &mut [u8], position: &mut [u16]) -> u8 {
+    let lengths_hold = source.len() == SOURCE_OCTETS && block.len() == OCTETS && position.len() == 1;
+    let read = accept(mask, start, table, lengths_hold)
+        .map_err(Refused::from)
+        .and_then(|code| read_bits(&code, mask, start, block));
+    if let Ok(tmcc) = &read {
+        source.copy_from_slice(&octets_of(&[tmcc, &[0, 0][..]].concat()));
+    }
+    Refused::tell(&read, position)
 }
 
 #[cfg(test)]
@@ -115,9 +121,9 @@ mod tests {
 
     #[test]
     fn reading_gives_back_what_was_coded() {
-        let mut found = vec![0xff; SOURCE_OCTETS];
-        assert_eq!(read(MASK, START, &printed([RATE]), &coded(), &mut found), 0);
-        assert_eq!(found, sample());
+        let (mut found, mut position) = (vec![0xff; SOURCE_OCTETS], [7]);
+        assert_eq!(read(MASK, START, &printed([RATE]), &coded(), &mut found, &mut position), 0);
+        assert_eq!((found, position), (sample(), [65535]));
     }
 
     #[test]
@@ -129,37 +135,66 @@ mod tests {
         assert_eq!(ldpc::parity(&tables()[2], &word), sent_parity);
     }
 
-    /// The number of reading a damaged block, which may write nothing.
-    fn refused(block: &[u8]) -> u8 {
-        let mut found = octets(9, SOURCE_OCTETS);
-        let number = read(MASK, START, &printed([RATE]), block, &mut found);
+    /// The number and position of reading a block, which may leave no source.
+    fn refused(block: &[u8]) -> (u8, u16) {
+        let (mut found, mut position) = (octets(9, SOURCE_OCTETS), [7]);
+        let number = read(MASK, START, &printed([RATE]), block, &mut found, &mut position);
         assert_eq!(found, octets(9, SOURCE_OCTETS));
-        number
+        (number, position[0])
+    }
+
+    /// The same of a block where these bits are the other ones.
+    fn refused_with(wrong: &[usize]) -> (u8, u16) {
+        let mut bits = bits_of(&coded());
+        wrong.iter().for_each(|&bit| bits[bit] ^= 1);
+        refused(&octets_of(&bits))
     }
 
     #[test]
-    fn each_check_of_a_damaged_block() {
-        for octet in [0, 1200, OCTETS - 1] {
-            let mut block = coded();
-            block[octet] ^= 0x80;
-            assert_eq!(refused(&block), PARITY_WRONG);
+    fn a_wrong_parity_bit_is_counted_from_the_first() {
+        for position in [0, 1, 11033, 22065] {
+            assert_eq!(refused_with(&[DISPERSED_BITS + position]), (8, position as u16));
         }
+        assert_eq!(refused_with(&[8 * OCTETS - 1, DISPERSED_BITS + 700, DISPERSED_BITS + 40]), (8, 40));
+    }
+
+    /// The first bit sent stands behind 1,870 zeros, five rows of the table: it is the first of the sixth row.
+    #[test]
+    fn a_wrong_bit_shows_at_the_lowest_position_that_it_reaches() {
+        let reached = |row: usize, m: usize| {
+            let of_address = |&address: &usize| ldpc::position(61, address, m);
+            tables()[RATE - 1][row].iter().map(of_address).min().expect("a row has addresses") as u16
+        };
+        assert_eq!(refused_with(&[0]), (8, reached(5, 0)));
+        assert_eq!(refused_with(&[1]), (8, reached(5, 1)));
+        assert_eq!(refused_with(&[BITS - 1]), (8, reached(30, 71)));
+        assert_eq!(refused_with(&[DISPERSED_BITS - 1]), (8, reached(30, 263)));
+    }
+
+    #[test]
+    fn wrong_bch_bits_have_no_position() {
         for bit in [0, BITS - 1, BITS, DISPERSED_BITS - 1] {
             let mut bits = bits_of(&coded());
             bits.truncate(DISPERSED_BITS);
             bits[bit] ^= 1;
             bits.extend(parity(&tables()[RATE - 1], &bits));
-            assert_eq!(refused(&octets_of(&bits)), BCH_WRONG);
+            assert_eq!(refused(&octets_of(&bits)), (9, 65535));
         }
     }
 
-    /// The numbers of both calls whose source and block are longer than their lengths by so much.
+    /// The numbers of both calls whose source and block are longer than their lengths by so much. Reading must write a position
+    /// of one number, and leave one of two.
     fn numbers(mask: u32, start: u32, table: &[u16], longer: [usize; 2]) -> [u8; 2] {
         let [source, block] = [octets(1, SOURCE_OCTETS + longer[0]), octets(2, OCTETS + longer[1])];
-        let [mut found, mut made] = [source.clone(), block.clone()];
-        let numbers = [code(mask, start, table, &source, &mut made), read(mask, start, table, &block, &mut found)];
+        let ([mut found, mut made], mut one, mut two) = ([source.clone(), block.clone()], [7], [7, 7]);
+        let coding = code(mask, start, table, &source, &mut made);
+        let reading = read(mask, start, table, &block, &mut found, &mut one);
+        assert_eq!((one[0] == 65535, one[0] == 7), (reading != 8, false));
+        let other = if reading == 6 { 6 } else { 4 };
+        assert_eq!((read(mask, start, table, &block, &mut found, &mut two), two), (other, [7, 7]));
+        assert_eq!(read(mask, start, table, &block, &mut found, &mut []), other);
         assert!(found == source && made == block);
-        numbers
+        [coding, reading]
     }
 
     #[test]

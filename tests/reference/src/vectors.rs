@@ -2,7 +2,7 @@
 //! and read with one bit damaged.
 use crate::ldpc;
 use crate::samples::{digest, octets, MASK, START};
-use crate::slot::{bits_of, code_slot, octets_of, read_slot, Code, NO_STUFF, PARITY_WRONG};
+use crate::slot::{bits_of, check_parity, code_slot, octets_of, read_slot, Code, Refused, NO_STUFF};
 use crate::tables::tables;
 
 /// A slot, or another run of octets, where the first bit of an octet is the other one.
@@ -24,8 +24,8 @@ pub fn with_parity_anew(code: &Code, coded: &[u8]) -> Vec<u8> {
 /// is refused; and the number of the lone parity check.
 fn read_line(title: &str, code: &Code, register: u32, coded: &[u8]) {
     let (read, after) = read_slot(code, MASK, register, coded);
-    let check = if with_parity_anew(code, coded) == coded { 0 } else { PARITY_WRONG };
-    let number = read.as_ref().err().copied().unwrap_or(0);
+    let (check, _) = Refused::told(&check_parity(code, coded));
+    let (number, _) = Refused::told(&read);
     let stuff = read.as_ref().map_or(NO_STUFF, |read| read.stuff);
     let source = read.map_or_else(|_| octets(0, code.message_bits() / 8), |read| read.source);
     println!("{title} read {number} stuff {stuff} check {check} register {after} digest {}", digest(&source));

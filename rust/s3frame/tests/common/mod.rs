@@ -6,13 +6,15 @@ pub mod cards;
 pub mod faults;
 pub mod points;
 pub mod tlv;
+pub mod words;
 use reference::calls::State;
 use reference::ldpc::{GROUP, ROWS};
 use reference::slot::{bits_of, octets_of, Code};
 use reference::vectors::with_parity_anew;
-use s3frame::{FrameState, Group, Modulation, Plan, Rate, Refusal, SlotSettings, StuffBits};
+use s3frame::{FrameState, Group, Modulation, Plan, Rate, ReadRefusal, Refusal, SlotSettings, StuffBits};
 use s3frame::{TmccSettings, PACKET_OCTETS, SLOT_OCTETS};
 use std::collections::BTreeMap;
+use words::{turned, Word, NO_POSITION};
 
 fn setting(name: &str, usual: u64) -> u64 {
     match std::env::var(name) {
@@ -181,21 +183,16 @@ impl Random {
         FrameState::at(plan, settings, self.pick(&slots), register)
     }
 
-    /// A slot damaged so that the check of this number fails: 8 by a bit that is the other one, 9 by such a bit before the
-    /// stuff bits and the parity made anew.
-    pub fn damaged(&mut self, code: &Code, coded: &[u8], number: u8) -> Vec<u8> {
-        let mut bits = bits_of(coded);
-        let bit = match number {
-            8 => self.below(bits.len()),
-            9 => self.below(code.dispersed_bits() - 6),
+    /// A sound slot damaged so that the check of this number fails, and the failing position: 8 by bits that break the parity,
+    /// 9 by a bit before the stuff bits and the parity made anew.
+    pub fn damaged(&mut self, code: &Code, coded: &[u8], number: u8) -> (Vec<u8>, u16) {
+        match number {
+            8 => self.with_broken_parity(&Word::slot(code), coded),
+            9 => {
+                let bit = self.below(code.dispersed_bits() - 6);
+                (with_parity_anew(code, &turned(coded, &[bit])), NO_POSITION)
+            }
             _ => panic!("no check has the number {number}"),
-        };
-        bits[bit] ^= 1;
-        let slot = octets_of(&bits);
-        if number == 8 {
-            slot
-        } else {
-            with_parity_anew(code, &slot)
         }
     }
 
@@ -207,20 +204,22 @@ impl Random {
         }
     }
 
-    /// A coded slot as it is received, with any stuff bits and now and then damaged; and the number and the stuff bits that
-    /// reading it must give.
-    pub fn received(&mut self, code: &Code, coded: &[u8]) -> (Vec<u8>, (u8, u8)) {
+    /// A coded slot as it is received, with any stuff bits and now and then damaged; and what reading it must tell.
+    pub fn received(&mut self, code: &Code, coded: &[u8]) -> (Vec<u8>, Told) {
         let stuff = self.stuff();
         let slot = stuffed(code, coded, stuff);
-        match self.pick(&[0, 0, 0, 0, 0, 0, 8, 9]) {
-            0 => (slot, (0, stuff)),
-            number => (self.damaged(code, &slot, number), (number, 255)),
+        match self.pick(&[0, 0, 0, 0, 0, 8, 8, 9]) {
+            0 => (slot, (0, stuff, NO_POSITION)),
+            number => {
+                let (slot, position) = self.damaged(code, &slot, number);
+                (slot, (number, 255, position))
+            }
         }
     }
 
-    /// Makes a coded frame one that is received so, dummies too; gives the answer and the stuff bits of each slot.
-    pub fn receive_frame(&mut self, plan: &Plan, tables: &[Vec<u16>], frame: &mut [u8]) -> Vec<(u8, u8)> {
-        let codes: Vec<Code> = plan.groups().zip(tables).map(|(group, table)| code(group.rate, table)).collect();
+    /// Makes a coded frame one that is received so, dummies too; gives what must be told of each slot.
+    pub fn receive_frame(&mut self, plan: &Plan, tables: &[Vec<u16>], frame: &mut [u8]) -> Vec<Told> {
+        let codes = codes(plan, tables);
         let places = reference::plan::places(&groups(plan));
         let slot = |(place, part): (&reference::plan::Place, &mut [u8])| {
             let (slot, told) = self.received(&codes[place.group], part);
@@ -228,7 +227,7 @@ impl Random {
             if place.data {
                 told
             } else {
-                (2, 255)
+                DUMMY
             }
         };
         places.iter().zip(frame.chunks_mut(SLOT_OCTETS)).map(slot).collect()
@@ -279,14 +278,31 @@ pub fn code(rate: Rate, table: &[u16]) -> Code {
     Code::new(tables.expect("a table of its form").swap_remove(0))
 }
 
-/// The number of a result.
-pub fn number<T>(answer: Result<T, Refusal>) -> u32 {
-    answer.err().map_or(0, |refusal| refusal.number())
+/// The same for each group of a plan.
+pub fn codes(plan: &Plan, tables: &[Vec<u16>]) -> Vec<Code> {
+    plan.groups().zip(tables).map(|(group, table)| code(group.rate, table)).collect()
 }
 
-/// The number of a slot that was read or refused, and its stuff bits as the calls report them.
-pub fn number_and_stuff(answer: Result<StuffBits, Refusal>) -> (u32, u16) {
-    (number(answer), answer.map_or(255, |stuff| stuff.number().into()))
+/// The number of a result.
+pub fn number<T, R: Into<Refusal>>(answer: Result<T, R>) -> u32 {
+    answer.err().map_or(0, |refused| refused.into().number())
+}
+
+/// The number of a result and the failing position beside it, as the calls tell them.
+pub fn number_and_position<T>(answer: Result<T, ReadRefusal>) -> (u8, u16) {
+    answer.err().map_or((0, NO_POSITION), |refused| (refused.refusal as u8, refused.position.unwrap_or(NO_POSITION)))
+}
+
+/// What the calls tell of a slot that was read or refused: its number, stuff bits and failing position.
+pub type Told = (u8, u8, u16);
+
+/// That of a dummy in a whole frame.
+pub const DUMMY: Told = (2, 255, NO_POSITION);
+
+/// That of a slot by itself.
+pub fn told(answer: Result<StuffBits, ReadRefusal>) -> Told {
+    let (number, position) = number_and_position(answer);
+    (number, answer.map_or(255, StuffBits::number), position)
 }
 
 /// How often each kind of case occurred.

@@ -1,18 +1,22 @@
 //! TMCC blocks.
 use crate::calls;
-use crate::common::faults::{self, choices, Faults};
+use crate::common::faults::{self, Faults};
+use crate::common::words::{turned, Word, NO_POSITION};
 use crate::common::{code, trials, Random};
-use crate::kept;
+use crate::slots::position_left;
+use crate::ways::{alone_and_in_pairs, cut, with_choices, Way};
+use crate::{compared, kept};
 use reference::{slot, tmcc};
 use s3frame::{Rate, TmccSettings};
 
-/// What both calls on a TMCC block are lent.
+/// What both calls on a TMCC block are lent; the position is the reader's alone.
 struct Block {
     mask: u32,
     start: u32,
     table: Vec<u16>,
     source: Vec<u8>,
     block: Vec<u8>,
+    position: Vec<u16>,
 }
 
 impl Block {
@@ -23,70 +27,91 @@ impl Block {
         let (mut source, mut block) = (random.source(tmcc::SOURCE_OCTETS), vec![0; tmcc::OCTETS]);
         source[tmcc::SOURCE_OCTETS - 1] &= 0xfc;
         assert_eq!(tmcc::code(mask, start, &table, &source, &mut block), 0);
-        Block { mask, start, table, source, block }
+        Block { mask, start, table, source, block, position: random.numbers(1) }
     }
 
-    fn break_all(&mut self, random: &mut Random, faults: &Faults) {
+    fn break_all(&mut self, random: &mut Random, faults: &Faults, lengths: &[&Way<Block>]) {
         if faults.has(5) {
             faults::break_tables(random, &[Rate::R1_2], &mut self.table);
         }
-        if faults.has(4) {
-            faults::break_one_length(random, &mut [&mut self.source, &mut self.block]);
-        }
+        lengths.iter().for_each(|way| (way.break_it)(self));
         if faults.has(6) {
             faults::break_settings(random, 15, &mut self.mask, &mut self.start);
         }
     }
 }
 
+/// The ways to 4 in both calls.
+const BOTH: &[Way<Block>] = &[
+    Way { of: "source", break_it: |lent| lent.source.clear() },
+    Way { of: "source", break_it: |lent| cut(&mut lent.source) },
+    Way { of: "source", break_it: |lent| lent.source.push(0) },
+    Way { of: "block", break_it: |lent| lent.block.clear() },
+    Way { of: "block", break_it: |lent| cut(&mut lent.block) },
+    Way { of: "block", break_it: |lent| lent.block.push(0) },
+];
+
+/// The further ways in reading.
+const READING: &[Way<Block>] = &[
+    Way { of: "position", break_it: |lent| lent.position.clear() },
+    Way { of: "position", break_it: |lent| lent.position.push(8) },
+    Way { of: "position", break_it: |lent| lent.position.extend([8, 9]) },
+];
+
+fn coded(random: &mut Random, faults: &Faults, lengths: &[&Way<Block>]) {
+    let mut lent = Block::new(random);
+    lent.block = random.octets(tmcc::OCTETS);
+    if faults.has(11) {
+        lent.source[tmcc::SOURCE_OCTETS - 1] |= random.pick(&[1, 2, 3]);
+    }
+    lent.break_all(random, faults, lengths);
+    let Block { mask, start, table, source, block, .. } = lent;
+    kept(
+        faults.first(),
+        &block,
+        |block| calls::code_tmcc(mask, start, &table, &source, block),
+        |block| tmcc::code(mask, start, &table, &source, block),
+    );
+}
+
 #[test]
 fn coding_a_block() {
-    let mut random = Random::new(58);
-    for faults in choices(&[6, 4, 5, 11], trials(10)) {
-        let mut lent = Block::new(&mut random);
-        lent.block = random.octets(tmcc::OCTETS);
-        if faults.has(11) {
-            lent.source[tmcc::SOURCE_OCTETS - 1] |= random.pick(&[1, 2, 3]);
-        }
-        lent.break_all(&mut random, &faults);
-        let Block { mask, start, table, source, block } = lent;
-        kept(
-            faults.first(),
-            &block,
-            |block| calls::code_tmcc(mask, start, &table, &source, block),
-            |block| tmcc::code(mask, start, &table, &source, block),
-        );
-    }
+    with_choices(&mut Random::new(58), &[6, 4, 5, 11], trials(10), &alone_and_in_pairs(BOTH), coded);
 }
 
 /// Turns one of a block's dispersed bits round and makes the parity anew.
-fn break_bch(random: &mut Random, lent: &mut Block) {
-    let mut bits = slot::bits_of(&lent.block);
+fn break_bch(random: &mut Random, code: &slot::Code, block: &[u8]) -> Vec<u8> {
+    let mut bits = slot::bits_of(&turned(block, &[random.below(tmcc::DISPERSED_BITS)]));
     bits.truncate(tmcc::DISPERSED_BITS);
-    bits[random.below(tmcc::DISPERSED_BITS)] ^= 1;
-    bits.extend(tmcc::parity(&code(Rate::R1_2, &lent.table).table, &bits));
-    lent.block = slot::octets_of(&bits);
+    bits.extend(tmcc::parity(&code.table, &bits));
+    slot::octets_of(&bits)
+}
+
+/// Every answer writes a position of its length.
+fn read(random: &mut Random, faults: &Faults, lengths: &[&Way<Block>]) {
+    let (mut lent, mut failing) = (Block::new(random), NO_POSITION);
+    let code = code(Rate::R1_2, &lent.table);
+    lent.source = random.octets(tmcc::SOURCE_OCTETS);
+    if faults.has(9) {
+        lent.block = break_bch(random, &code, &lent.block);
+    }
+    if faults.has(8) {
+        (lent.block, failing) = random.with_broken_parity(&Word::block(&code), &lent.block);
+    }
+    lent.break_all(random, faults, lengths);
+    let Block { mask, start, table, source, block, position } = lent;
+    let (left, told) = compared(
+        faults.first(),
+        &(source.clone(), position.clone()),
+        |(source, position)| calls::read_tmcc(mask, start, &table, &block, source, position),
+        |(source, position)| tmcc::read(mask, start, &table, &block, source, position),
+    );
+    assert!(faults.first() == 0 || left == source, "a refusal leaves the source");
+    assert_eq!(told, position_left(position, faults.first(), failing));
 }
 
 #[test]
 fn reading_a_block() {
-    let mut random = Random::new(59);
-    for faults in choices(&[6, 4, 5, 8, 9], trials(5)) {
-        let mut lent = Block::new(&mut random);
-        lent.source = random.octets(tmcc::SOURCE_OCTETS);
-        if faults.has(9) {
-            break_bch(&mut random, &mut lent);
-        }
-        if faults.has(8) {
-            lent.block[random.below(tmcc::OCTETS)] ^= 1 << random.below(8);
-        }
-        lent.break_all(&mut random, &faults);
-        let Block { mask, start, table, source, block } = lent;
-        kept(
-            faults.first(),
-            &source,
-            |source| calls::read_tmcc(mask, start, &table, &block, source),
-            |source| tmcc::read(mask, start, &table, &block, source),
-        );
-    }
+    let lengths = alone_and_in_pairs(BOTH.iter().chain(READING));
+    with_choices(&mut Random::new(59), &[6, 4, 5, 8, 9], trials(5), &lengths, read);
 }

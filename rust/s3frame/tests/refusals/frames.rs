@@ -2,7 +2,7 @@
 //! file of their own.
 use crate::calls;
 use crate::common::faults::{self, Faults};
-use crate::common::{groups, trials, Random};
+use crate::common::{groups, trials, Random, Told};
 use crate::states::Lent;
 use crate::ways::{alone_and_in_pairs, cut, with_choices, Way};
 use crate::{compared, kept};
@@ -10,14 +10,46 @@ use reference::frame;
 use reference::plan::of_octets;
 use s3frame::{Modulation, Plan, Rate, SlotSettings, SLOTS};
 
-/// What a whole frame's calls are lent; answers and stuff bits are the reader's alone.
+/// What a reading call writes: what it reads, and three numbers for each slot.
+#[derive(Clone, PartialEq)]
+struct Areas {
+    source: Vec<u8>,
+    answers: Vec<u8>,
+    stuff: Vec<u8>,
+    positions: Vec<u16>,
+}
+
+impl Areas {
+    /// Areas of chance for a source of so many octets.
+    fn new(random: &mut Random, count: usize) -> Areas {
+        let [source, answers, stuff] = [count, SLOTS, SLOTS].map(|count| random.octets(count));
+        Areas { source, answers, stuff, positions: random.numbers(SLOTS) }
+    }
+
+    /// Reads a frame into them.
+    fn read(&mut self, plan: &[u8], settings: SlotSettings, tables: &[u16], coded: &[u8]) -> u32 {
+        let (Areas { source, answers, stuff, positions }, SlotSettings { mask, start }) = (self, settings);
+        calls::read_frame(plan, mask, start, tables, coded, source, answers, stuff, positions)
+    }
+
+    /// The same by the second implementation.
+    fn read_by_reference(&mut self, plan: &[u8], settings: SlotSettings, tables: &[u16], coded: &[u8]) -> u8 {
+        let (Areas { source, answers, stuff, positions }, SlotSettings { mask, start }) = (self, settings);
+        frame::read(&of_octets(plan), mask, start, tables, coded, source, answers, stuff, positions)
+    }
+
+    /// What they tell of each slot.
+    fn told(&self) -> Vec<Told> {
+        (0..SLOTS).map(|slot| (self.answers[slot], self.stuff[slot], self.positions[slot])).collect()
+    }
+}
+
+/// What a whole frame's calls are lent: the coder the source alone of what the reader writes.
 struct Frame {
     lent: Lent,
     tables: Vec<u16>,
-    source: Vec<u8>,
     coded: Vec<u8>,
-    answers: Vec<u8>,
-    stuff: Vec<u8>,
+    areas: Areas,
 }
 
 impl Frame {
@@ -26,9 +58,8 @@ impl Frame {
         let (lent, _) = Lent::new(random, true);
         let plan = Plan::of_octets(&lent.plan).expect("a plan that keeps the rules");
         let tables = random.tables(&plan).concat();
-        let source = random.source(plan.source_octets());
-        let [coded, answers, stuff] = [frame::OCTETS, SLOTS, SLOTS].map(|count| random.octets(count));
-        let mut frame = Frame { lent, tables, source, coded, answers, stuff };
+        let (coded, areas) = (random.octets(frame::OCTETS), Areas::new(random, plan.source_octets()));
+        let mut frame = Frame { lent, tables, coded, areas };
         if faults.has(5) {
             let rates: Vec<Rate> = plan.groups().map(|group| group.rate).collect();
             faults::break_tables(random, &rates, &mut frame.tables);
@@ -41,9 +72,9 @@ impl Frame {
 
 /// The ways to 4 in both calls.
 const BOTH: &[Way<Frame>] = &[
-    Way { of: "source", break_it: |lent| lent.source.clear() },
-    Way { of: "source", break_it: |lent| cut(&mut lent.source) },
-    Way { of: "source", break_it: |lent| lent.source.push(0) },
+    Way { of: "source", break_it: |lent| lent.areas.source.clear() },
+    Way { of: "source", break_it: |lent| cut(&mut lent.areas.source) },
+    Way { of: "source", break_it: |lent| lent.areas.source.push(0) },
     Way { of: "frame", break_it: |lent| lent.coded.clear() },
     Way { of: "frame", break_it: |lent| cut(&mut lent.coded) },
     Way { of: "frame", break_it: |lent| lent.coded.push(0) },
@@ -51,33 +82,36 @@ const BOTH: &[Way<Frame>] = &[
 
 /// The further ways in reading.
 const READING: &[Way<Frame>] = &[
-    Way { of: "answers", break_it: |lent| lent.answers.clear() },
-    Way { of: "answers", break_it: |lent| cut(&mut lent.answers) },
-    Way { of: "answers", break_it: |lent| lent.answers.push(0) },
-    Way { of: "stuff", break_it: |lent| lent.stuff.clear() },
-    Way { of: "stuff", break_it: |lent| cut(&mut lent.stuff) },
-    Way { of: "stuff", break_it: |lent| lent.stuff.push(0) },
+    Way { of: "answers", break_it: |lent| lent.areas.answers.clear() },
+    Way { of: "answers", break_it: |lent| cut(&mut lent.areas.answers) },
+    Way { of: "answers", break_it: |lent| lent.areas.answers.push(0) },
+    Way { of: "stuff", break_it: |lent| lent.areas.stuff.clear() },
+    Way { of: "stuff", break_it: |lent| cut(&mut lent.areas.stuff) },
+    Way { of: "stuff", break_it: |lent| lent.areas.stuff.push(0) },
+    Way { of: "positions", break_it: |lent| lent.areas.positions.clear() },
+    Way { of: "positions", break_it: |lent| cut(&mut lent.areas.positions) },
+    Way { of: "positions", break_it: |lent| lent.areas.positions.push(0) },
 ];
 
 fn coded(random: &mut Random, faults: &Faults, lengths: &[&Way<Frame>]) {
-    let Frame { lent: Lent { plan, mask, start, .. }, tables, source, coded, .. } = Frame::new(random, faults, lengths);
+    let Frame { lent: Lent { plan, mask, start, .. }, tables, coded, areas } = Frame::new(random, faults, lengths);
     let groups = of_octets(&plan);
     kept(
         faults.first(),
         &coded,
-        |coded| calls::code_frame(&plan, mask, start, &tables, &source, coded),
-        |coded| frame::code(&groups, mask, start, &tables, &source, coded),
+        |coded| calls::code_frame(&plan, mask, start, &tables, &areas.source, coded),
+        |coded| frame::code(&groups, mask, start, &tables, &areas.source, coded),
     );
 }
 
 fn read(random: &mut Random, faults: &Faults, lengths: &[&Way<Frame>]) {
-    let Frame { lent, tables, source, coded, answers, stuff } = Frame::new(random, faults, lengths);
-    let (Lent { plan, mask, start, .. }, groups) = (&lent, of_octets(&lent.plan));
+    let Frame { lent: Lent { plan, mask, start, .. }, tables, coded, areas } = Frame::new(random, faults, lengths);
+    let settings = SlotSettings { mask, start };
     kept(
         faults.first(),
-        &[source, answers, stuff],
-        |[source, answers, stuff]| calls::read_frame(plan, *mask, *start, &tables, &coded, source, answers, stuff),
-        |[source, answers, stuff]| frame::read(&groups, *mask, *start, &tables, &coded, source, answers, stuff),
+        &areas,
+        |areas| areas.read(&plan, settings, &tables, &coded),
+        |areas| areas.read_by_reference(&plan, settings, &tables, &coded),
     );
 }
 
@@ -95,27 +129,24 @@ fn reading_a_frame() {
     with_choices(&mut Random::new(57), &NUMBERS, trials(3), &lengths, read);
 }
 
-/// Slots with any stuff bits, damaged ones and dummies: the octets that tell of each, and the only answers that there are.
+/// Slots with any stuff bits, damaged ones and dummies: the numbers that tell of each, and the only answers that there are.
 #[test]
-fn the_answers_and_stuff_bits_of_a_frame() {
+fn what_is_told_of_the_slots_of_a_frame() {
     let mut random = Random::new(75);
     for _ in 0..trials(3) {
-        let (rate, SlotSettings { mask, start }) = (random.rate(), random.slot_settings());
+        let (rate, settings) = (random.rate(), random.slot_settings());
         let plan = random.plan_with(Modulation::Qpsk, rate);
         let (groups, lent, source) = (groups(&plan), random.tables(&plan), random.source(plan.source_octets()));
         let (tables, mut coded) = (lent.concat(), random.octets(frame::OCTETS));
-        assert_eq!(frame::code(&groups, mask, start, &tables, &source, &mut coded), 0);
+        assert_eq!(frame::code(&groups, settings.mask, settings.start, &tables, &source, &mut coded), 0);
         let expected = random.receive_frame(&plan, &lent, &mut coded);
-        let found = [source.len(), SLOTS, SLOTS].map(|count| random.octets(count));
-        let [_, answers, stuff] = compared(
+        let left = compared(
             0,
-            &found,
-            |[source, answers, stuff]| {
-                calls::read_frame(plan.octets(), mask, start, &tables, &coded, source, answers, stuff)
-            },
-            |[source, answers, stuff]| frame::read(&groups, mask, start, &tables, &coded, source, answers, stuff),
+            &Areas::new(&mut random, source.len()),
+            |areas| areas.read(plan.octets(), settings, &tables, &coded),
+            |areas| areas.read_by_reference(plan.octets(), settings, &tables, &coded),
         );
-        assert!(answers.iter().all(|answer| [0, 2, 8, 9].contains(answer)));
-        assert_eq!(answers.into_iter().zip(stuff).collect::<Vec<_>>(), expected);
+        assert!(left.answers.iter().all(|answer| [0, 2, 8, 9].contains(answer)));
+        assert_eq!(left.told(), expected);
     }
 }

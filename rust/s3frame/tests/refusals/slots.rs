@@ -1,6 +1,7 @@
 //! One slot of header and data, and the lone parity check.
 use crate::calls;
-use crate::common::faults::{self, choices, plan_choices, Faults};
+use crate::common::faults::{self, plan_choices, Faults};
+use crate::common::words::NO_POSITION;
 use crate::common::{code, stuffed, trials, Random};
 use crate::states::Lent;
 use crate::ways::{alone_and_in_pairs, cut, with_choices, Way};
@@ -41,10 +42,10 @@ fn coding_a_slot() {
     }
 }
 
-/// A slot with the faults asked for: 9 keeps the parity, and 8 comes last and breaks it.
-fn received(random: &mut Random, faults: &Faults, code: &slot::Code, sound: &[u8]) -> Vec<u8> {
+/// A slot with the faults asked for, and its failing position: 9 keeps the parity, and 8 comes last and breaks it.
+fn received(random: &mut Random, faults: &Faults, code: &slot::Code, sound: &[u8]) -> (Vec<u8>, u16) {
     let asked = [9, 8].into_iter().filter(|&number| faults.has(number));
-    asked.fold(sound.to_vec(), |slot, number| random.damaged(code, &slot, number))
+    asked.fold((sound.to_vec(), NO_POSITION), |(slot, _), number| random.damaged(code, &slot, number))
 }
 
 /// What a reading call writes: what it reads, in one area or two, its report and the state after it.
@@ -55,13 +56,15 @@ pub struct Areas {
     pub next: Vec<u32>,
 }
 
-/// What a reading call is lent, the areas as found among it, and what it must leave in them where it accepts.
+/// What a reading call is lent, the areas as found among it, and what it must leave in them: where it accepts, and the failing
+/// position where the parity is what it refuses.
 pub struct Reading {
     pub lent: Lent,
     pub table: Vec<u16>,
     pub coded: Vec<u8>,
     pub found: Areas,
     accepted: Areas,
+    failing: u16,
 }
 
 impl Reading {
@@ -78,15 +81,15 @@ impl Reading {
         let (code, stuff) = (code(rate, &table), random.stuff());
         let source = random.source(code.message_bits() / 8);
         let (sound, register) = slot::code_slot(&code, lent.mask, lent.register, &source);
-        let coded = received(random, faults, &code, &stuffed(&code, &sound, stuff));
+        let (coded, failing) = received(random, faults, &code, &stuffed(&code, &sound, stuff));
         if faults.has(5) {
             faults::break_tables(random, &[rate], &mut table);
         }
         let read = areas(rate, &source);
         let found = read.iter().map(|area| random.octets(area.len())).collect();
-        let found = Areas { read: found, report: random.numbers(1), next: lent.next.clone() };
-        let accepted = Areas { read, report: vec![stuff.into()], next: vec![lent.slot + 1, register] };
-        let mut reading = Reading { lent, table, coded, found, accepted };
+        let found = Areas { read: found, report: random.numbers(2), next: lent.next.clone() };
+        let accepted = Areas { read, report: vec![stuff.into(), NO_POSITION], next: vec![lent.slot + 1, register] };
+        let mut reading = Reading { lent, table, coded, found, accepted, failing };
         lengths.iter().for_each(|way| (way.break_it)(&mut reading));
         reading.lent.break_state(random, faults, true);
         reading
@@ -96,7 +99,8 @@ impl Reading {
     /// length.
     pub fn left(&self, number: u8) -> Areas {
         let Areas { read, report, next } = self.found.clone();
-        let report = if report.len() == 1 { vec![255] } else { report };
+        let position = if number == 8 { self.failing } else { NO_POSITION };
+        let report = if report.len() == 2 { vec![255, position] } else { report };
         match number {
             0 => self.accepted.clone(),
             8 | 9 => Areas { read, report, next: self.accepted.next.clone() },
@@ -117,6 +121,7 @@ pub const READING: &[Way<Reading>] = &[
     Way { of: "first area", break_it: |lent| cut(&mut lent.found.read[0]) },
     Way { of: "first area", break_it: |lent| lent.found.read[0].push(0) },
     Way { of: "report", break_it: |lent| lent.found.report.clear() },
+    Way { of: "report", break_it: |lent| cut(&mut lent.found.report) },
     Way { of: "report", break_it: |lent| lent.found.report.push(8) },
     Way { of: "report", break_it: |lent| lent.found.report.extend([8, 9]) },
     Way { of: "next", break_it: |lent| lent.found.next.clear() },
@@ -144,30 +149,59 @@ fn reading_a_slot() {
     with_choices(&mut Random::new(54), &NUMBERS, trials(1), &alone_and_in_pairs(READING), read);
 }
 
+/// What the lone parity check is lent.
+struct Check {
+    rate: u32,
+    table: Vec<u16>,
+    coded: Vec<u8>,
+    position: Vec<u16>,
+}
+
+/// The ways to 4 in the lone parity check.
+const CHECKING: &[Way<Check>] = &[
+    Way { of: "coded", break_it: |lent| lent.coded.clear() },
+    Way { of: "coded", break_it: |lent| cut(&mut lent.coded) },
+    Way { of: "coded", break_it: |lent| lent.coded.push(0) },
+    Way { of: "position", break_it: |lent| lent.position.clear() },
+    Way { of: "position", break_it: |lent| lent.position.push(8) },
+    Way { of: "position", break_it: |lent| lent.position.extend([8, 9]) },
+];
+
+/// Checks a slot of chance with the faults asked for. Every answer writes a position of its length.
+fn check(random: &mut Random, faults: &Faults, lengths: &[&Way<Check>]) {
+    let rate = random.rate();
+    let table = random.table(rate);
+    let code = code(rate, &table);
+    let sound = reference::vectors::with_parity_anew(&code, &random.octets(slot::OCTETS));
+    let (coded, failing) = received(random, faults, &code, &sound);
+    let mut lent = Check { rate: rate.number(), table, coded, position: random.numbers(1) };
+    if faults.has(5) {
+        faults::break_tables(random, &[rate], &mut lent.table);
+    }
+    lengths.iter().for_each(|way| (way.break_it)(&mut lent));
+    if faults.has(1) {
+        faults::unknown(random, &mut lent.rate, 11);
+    }
+    let Check { rate, table, coded, position } = lent;
+    let left = compared(
+        faults.first(),
+        &position,
+        |position| calls::check_parity(rate, &table, &coded, position),
+        |position| reference::calls::check_parity(rate as usize, &table, &coded, position),
+    );
+    assert_eq!(left, position_left(position, faults.first(), failing));
+}
+
+/// What a call must leave of an area for a position where it answers this number.
+pub fn position_left(found: Vec<u16>, number: u8, failing: u16) -> Vec<u16> {
+    match (found.len(), number) {
+        (1, 8) => vec![failing],
+        (1, _) => vec![NO_POSITION],
+        _ => found,
+    }
+}
+
 #[test]
 fn checking_parity() {
-    let mut random = Random::new(55);
-    for faults in choices(&[1, 4, 5, 8], trials(20)) {
-        let rate = random.rate();
-        let mut number = rate.number();
-        let mut table = random.table(rate);
-        let code = code(rate, &table);
-        let sound = reference::vectors::with_parity_anew(&code, &random.octets(slot::OCTETS));
-        let mut coded = received(&mut random, &faults, &code, &sound);
-        if faults.has(5) {
-            faults::break_tables(&mut random, &[rate], &mut table);
-        }
-        if faults.has(4) {
-            faults::break_length(&mut random, &mut coded);
-        }
-        if faults.has(1) {
-            faults::unknown(&mut random, &mut number, 11);
-        }
-        kept(
-            faults.first(),
-            &(),
-            |_| calls::check_parity(number, &table, &coded),
-            |_| reference::calls::check_parity(number as usize, &table, &coded),
-        );
-    }
+    with_choices(&mut Random::new(55), &[1, 4, 5, 8], trials(20), &alone_and_in_pairs(CHECKING), check);
 }
