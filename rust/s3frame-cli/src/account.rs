@@ -40,7 +40,7 @@ impl<C: Carried> Found<C> {
         }
     }
 
-    /// Notes what a refused slot lost.
+    /// Notes a refused slot.
     pub fn refused(&mut self, refused: Refused) {
         self.refused.push(refused);
     }
