@@ -2,9 +2,9 @@
 use crate::failure::Failure;
 use crate::files::{Content, Files};
 use crate::frames::Layout;
+use crate::frames_picture;
 use crate::json::Json;
 use crate::outputs::Output;
-use crate::picture;
 use crate::progress::Progress;
 use crate::report::Report;
 use crate::rows::{Row, Rows};
@@ -89,7 +89,7 @@ impl<C: Carried> Account<C> {
             outputs.push(json.end(self.frames, self.total, left_over)?);
         }
         if let Some((rows, mut output)) = self.picture {
-            output.write(picture::of_frames(&rows).as_bytes())?;
+            output.write(frames_picture::of_frames(&rows).as_bytes())?;
             outputs.push(output);
         }
         Ok(outputs)

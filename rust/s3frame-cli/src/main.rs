@@ -9,6 +9,7 @@ mod coordinates;
 mod failure;
 mod files;
 mod frames;
+mod frames_picture;
 mod gaps;
 mod help;
 mod inputs;
