@@ -1,8 +1,10 @@
-//! The picture of frames that were read: what became of their slots.
+//! The picture of frames that were read: what became of their slots, and where parity broke.
 use crate::picture::{
     legend, sides, svg, title, whole, with_axes, Area, Drawn, ABSENT, EDGE, FAILING, FONT, LINE, LOWER_AXIS,
     SLOT_LABELS, WIDTH,
 };
+use crate::position_charts;
+use crate::positions::Positions;
 use crate::rows::Rows;
 use crate::tally::Answer;
 use plotters::prelude::*;
@@ -26,15 +28,18 @@ const ANSWERS: [(Answer, &str, RGBColor); 5] = [
     (Answer::OtherStuff, "accepted, other stuff bits", RGBColor(0xF0, 0xB4, 0x00)),
 ];
 
-/// The slots of frames, coloured by answer: slots to the right, frames downward.
-pub fn of_frames(rows: &Rows) -> String {
+/// The slots of frames, coloured by answer: slots to the right, frames downward. Below it the charts of positions.
+pub fn of_frames(rows: &Rows, positions: &Positions) -> String {
     let count = rows.iter().count() as u32;
     let height = count * (ROWS / count).clamp(LOWEST_ROW, HIGHEST_ROW);
-    svg((WIDTH, 2 * LINE + height.max(LEAST_ROWS) + LOWER_AXIS + EDGE), |area| {
-        let (head, body) = area.split_vertically(2 * LINE);
+    let height = 2 * LINE + height.max(LEAST_ROWS) + LOWER_AXIS + EDGE;
+    svg((WIDTH, height + position_charts::height(positions)), |area| {
+        let (upper, lower) = area.split_vertically(height);
+        let (head, body) = upper.split_vertically(2 * LINE);
         title(&head, &heading(rows))?;
         legend(&head, ANSWERS.map(|(_, name, colour)| (colour, name)))?;
-        chart(&body, rows)
+        chart(&body, rows)?;
+        position_charts::draw(&lower, positions)
     })
 }
 

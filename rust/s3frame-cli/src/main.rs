@@ -24,6 +24,8 @@ mod plan;
 mod plan_text;
 mod plane;
 mod points;
+mod position_charts;
+mod positions;
 mod progress;
 mod report;
 mod rows;

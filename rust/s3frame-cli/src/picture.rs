@@ -79,6 +79,14 @@ pub fn with_axes<'a, 'b>(area: &'a Area<'b>) -> ChartBuilder<'a, 'static, SVGBac
     chart
 }
 
+/// The name of an axis, with the unit of its numbers, a power of ten.
+pub fn axis_name(name: &str, power: i32) -> String {
+    match power {
+        0 => name.to_string(),
+        power => format!("{name}, in units of 1e{power}"),
+    }
+}
+
 /// A whole number as a label, and no label for others.
 pub fn whole(number: f64) -> String {
     if number.fract() == 0.0 {
