@@ -2,8 +2,9 @@
 //! number of frames.
 use s3frame::Place;
 
-/// How many positions a stretch has. Parity bits are 374 for each of some rows, so that halves of 374 fill the parity of every
-/// rate: no stretch is shorter than another, and the longest parity has 158, some pixels each.
+/// How many positions a stretch has: half of 374, which every rate's number of parity bits is a multiple of, so that no stretch
+/// is shorter than another. The longest parity has 158 of them, which are six pixels wide each. All plans have the same, so
+/// that their pictures can be compared.
 pub const STRETCH: usize = 187;
 
 /// Slots refused for their parity, counted by slot and by the stretch of the lowest failing position.
