@@ -49,10 +49,9 @@ def across(texts, box):
 
 
 def down(texts, box):
-    """The slot of a box that is as high as one."""
+    """The first and the last slot that a box covers."""
     slot = axis(texts, "end", 2)
-    top, bottom = slot(box[1]), slot(box[1] + box[3])
-    return round((top + bottom) / 2) if round(bottom - top) == 1 else (top, bottom)
+    return round(slot(box[1]) + .5), round(slot(box[1] + box[3]) - .5)
 
 
 def shade(count):
@@ -64,8 +63,8 @@ def cells_of_positions(plan, failed, texts, boxes):
     """Slots against positions: a cell where one failed or more, darker for more, and grey where a slot has none."""
     stretches = {slot: parity_bits(rate) // STRETCH for slot, rate in rates(plan).items()}
     longest = max(stretches.values())
-    wanted = [(slot, (stretch, stretch + 1), shade(count)) for (slot, stretch), count in failed.items()]
-    wanted += [(slot, (stretches.get(slot, 0), longest), "no such position") for slot in range(1, 121)
+    wanted = [((slot, slot), (stretch, stretch + 1), shade(count)) for (slot, stretch), count in failed.items()]
+    wanted += [((slot, slot), (stretches.get(slot, 0), longest), "no such position") for slot in range(1, 121)
                if stretches.get(slot) != longest]
     names = legend(texts, boxes)
     found = [(down(texts, box), across(texts, box), names.get(box[4], box[4])) for box in boxes[5:]]
