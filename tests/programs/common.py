@@ -17,7 +17,7 @@ SETTINGS = ["--plan", "plan", "--mask", MASK, "--start", START]
 WORKED = "4 7 115\n2 3 5\n"  # 92 slots of 23 packets and 2 of 15
 EIGHT = "5 11 20\n5 7 10\n4 7 30\n3 5 20\n3 1 15\n2 3 10\n1 9 10\n1 1 5\n"
 FEW = "1 1 120\n"  # 24 slots of 10 packets
-ROWS = {1: 41, 3: 61, 7: 93}  # of 374 bits before the parity, by rate
+ROWS = dict(enumerate((41, 49, 61, 73, 81, 89, 93, 97, 101, 105, 109), 1))  # of 374 bits before the parity, by rate
 passed = failed = 0
 
 
@@ -97,6 +97,29 @@ def frames_of(plan, packets):
     return frames
 
 
+def rates(plan):
+    """The rate of each data slot of a plan."""
+    found, first = {}, 1
+    for modulation, rate, slots in (map(int, line.split(" ")) for line in plan.splitlines()):
+        found.update((slot, rate) for slot in range(first, first + slots * modulation // 5))
+        first += slots
+    return found
+
+
+def parity_bits(rate):
+    return 374 * (120 - ROWS[rate])
+
+
+def turn(frames, frame, slot, bit):
+    """Turns a bit of a coded slot."""
+    frames[FRAME * (frame - 1) + SLOT * (slot - 1) + bit // 8] ^= 128 >> bit % 8
+
+
+def turn_parity(frames, frame, slot, rate, position):
+    """Turns a parity bit of a coded slot."""
+    turn(frames, frame, slot, 374 * ROWS[rate] + position)
+
+
 def put_stuff(frames, frame, slot, rate, stuff):
     """Puts other stuff bits, as a number, in place of the six ones of a coded slot, and makes its parity anew. They are the
     first bits of an octet, at the end of the last row; one that is turned as sent is turned below the dispersal too.
@@ -132,7 +155,7 @@ def json_lines(name):
     for frame in document["frames"]:
         slots, stuff = frame.pop("refused"), frame.pop("stuff")
         told += [f"frame {frame['frame']} slot {slot['slot']} refused {slot['number']} {slot['word']} lost {slot['lost']}"
-                 for slot in slots]
+                 + ("" if slot["position"] is None else f" position {slot['position']}") for slot in slots]
         told += [f"frame {frame['frame']} stuff {bits['stuff']} slots {joined(bits['slots'])}" for bits in stuff]
         told.append(" ".join(f"{name} {value}" for name, value in frame.items()))
     return told + [" ".join(f"{name} {value}" for name, value in document["total"].items())]

@@ -1,13 +1,12 @@
 """Slots that are refused, and those with other stuff bits, in the report, in JSON and in the picture."""
 import json
 import resource
-import xml.etree.ElementTree as xml
 from collections import Counter
 
+from charts import cells, positions_drawn
 from common import (FEW, FRAME, PACKET, SETTINGS, SLOT, WORKED, check, counts, equal, frames_of, got, json_lines, limit, put,
-                    put_stuff, samples, well)
+                    put_stuff, samples, turn_parity, well)
 
-SVG = "{http://www.w3.org/2000/svg}"
 REPORTS = ["--json", "out.json", "--svg", "out.svg"]
 
 
@@ -18,7 +17,7 @@ def damaged(frames):
     octets = bytearray(frames)
     for slot, stuff in ((2, 0), (5, 62), (6, 31), (7, 62), (8, 62), (9, 62)):
         put_stuff(octets, 1, slot, 7, stuff)
-    octets[2 * SLOT - 1] ^= 1
+    turn_parity(octets, 1, 2, 7, 4711)
     third, fourth, fifth = (FRAME + k * SLOT for k in (2, 3, 4))
     octets[third:fourth], octets[fourth:fifth] = octets[fourth:fifth], octets[third:fourth]
     return bytes(octets)
@@ -33,15 +32,6 @@ def same_in_json(lines):
     equal("plan and settings in JSON", {name: document[name] for name in settings}, settings)
 
 
-def cells():
-    """The picture's texts, and how many cells it has of each name in its legend, which stands behind the ground."""
-    picture = xml.fromstring(got("out.svg"))
-    fills = [cell.get("fill") for cell in picture.iter(f"{SVG}rect")]
-    texts = [text.text.strip() for text in picture.iter(f"{SVG}text")]
-    names = dict(zip(fills[1:6], texts[1:6]))
-    return texts, Counter(names.get(fill, fill) for fill in fills[6:])
-
-
 def report():
     packets = samples(2 * 2146, 5)
     put("damaged", damaged(frames_of(WORKED, packets)))
@@ -50,7 +40,7 @@ def report():
     want = packets[:slot] + packets[2 * slot:in_frame + 2 * slot] + packets[in_frame + 4 * slot:]
     equal("the packets of accepted slots alone come back", got("back"), want)
     equal("the report", lines, [
-        "frame 1 slot 2 refused 8 parity lost 23", "frame 1 stuff 31 slots 6", "frame 1 stuff 62 slots 5,7-9",
+        "frame 1 slot 2 refused 8 parity lost 23 position 4711", "frame 1 stuff 31 slots 6", "frame 1 stuff 62 slots 5,7-9",
         "frame 1 accepted 93 dummy 26 parity 1 BCH 0 other_stuff 5 planned 2146 written 2123 lost 23 null 0",
         "frame 2 slot 3 refused 9 BCH lost 23", "frame 2 slot 4 refused 9 BCH lost 23",
         "frame 2 accepted 92 dummy 26 parity 0 BCH 2 other_stuff 0 planned 2146 written 2100 lost 46 null 0",
@@ -60,6 +50,7 @@ def report():
     equal("cells of the picture", found, Counter({"accepted": 180, "dummy": 52, "refused 8 parity": 1, "refused 9 BCH": 2,
                                                   "accepted, other stuff bits": 5}))
     check(f"the axes are named: {texts}", {"slot", "frame", "120", "1", "2"} <= set(texts))
+    positions_drawn(WORKED, lines)
 
 
 def wrong_settings():
@@ -81,10 +72,11 @@ def many_frames():
         frames[(frame - 1) * FRAME + slot * SLOT - 1] ^= 1
     put("frames", bytes(frames))
     memory = limit(resource.RLIMIT_AS, len(frames) // 4)
-    well("many frames", "monitor", *SETTINGS, "frames", "-o", "back", *REPORTS, status=1, **memory)
+    lines = well("many frames", "monitor", *SETTINGS, "frames", "-o", "back", *REPORTS, status=1, **memory).splitlines()
     texts, found = cells()
     equal("cells of many frames", found, Counter({"accepted": 101 * 24 - 3, "dummy": 101 * 96, "refused 8 parity": 3}))
     check(f"the axis tells frames: {texts}", {"20", "100", "200"} <= set(texts) and "each row the worst of 2 frames" in texts[0])
+    positions_drawn(FEW, lines)
 
 
 def test():

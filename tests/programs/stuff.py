@@ -4,8 +4,9 @@ and the report says which bits they were.
 import json
 from collections import Counter
 
+from charts import cells
 from common import FEW, FRAME, SETTINGS, WORKED, check, equal, frames_of, got, json_lines, put, put_stuff, samples, well
-from damage import REPORTS, cells
+from damage import REPORTS
 from tlv import DATA, EMPTY, MONITOR, SLOTS, coded, of_all_kinds
 
 

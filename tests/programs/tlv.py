@@ -6,9 +6,9 @@ import random
 import resource
 import subprocess
 
-from common import (COMMAND, FEW, FRAME, HEADER, MASK, REFERENCE, SETTINGS, SLOT, START, WORKED, check, equal, got, json_lines,
-                    limit, put, refused, run, samples, well)
-from damage import cells
+from charts import cells, positions_drawn
+from common import (COMMAND, FEW, FRAME, HEADER, MASK, REFERENCE, SETTINGS, START, WORKED, check, equal, got, json_lines, limit,
+                    parity_bits, put, refused, run, samples, turn_parity, well)
 
 CODE, MONITOR = ["code", "--tlv", *SETTINGS], ["monitor", "--tlv", *SETTINGS]
 EMPTY = b"\x7f\xff\0\0"
@@ -108,17 +108,18 @@ def there_and_back(plan, slots, octets, packets):
 
 
 def with_lost_slots(packets, frames, lost):
-    """Frames whose slots, counted through all of them, are lost here and there."""
-    octets = bytearray(frames)
-    for slot in lost:
-        octets[FRAME * (slot // SLOTS) + SLOT * (slot % SLOTS + 1) - 1] ^= 1
+    """Frames whose slots, counted through all of them, are lost here and there, each by a parity bit of its own."""
+    octets, positions = bytearray(frames), {slot: 7001 * slot % parity_bits(1) for slot in lost}
+    for slot, position in positions.items():
+        turn_parity(octets, slot // SLOTS + 1, slot % SLOTS + 1, 1, position)
     put("damaged", bytes(octets))
     words = ["damaged", "--begins", "frames.begins", "-o", "back", "--json", "out.json", "--svg", "out.svg"]
     lines = well("monitor", *MONITOR, *words, status=int(bool(lost))).splitlines()
     count = len(frames) // FRAME
     equal("packets that touch no lost slot come back", got("back"), b"".join(coming_back(packets, -1, count * SLOTS * DATA, lost)))
     equal("the refused slots have lines", [line for line in lines if "refused" in line],
-          [f"frame {slot // SLOTS + 1} slot {slot % SLOTS + 1} refused 8 parity lost {DATA}" for slot in sorted(lost)])
+          [f"frame {slot // SLOTS + 1} slot {slot % SLOTS + 1} refused 8 parity lost {DATA} position {positions[slot]}"
+           for slot in sorted(lost)])
     for frame in range(count):
         told = [line for line in lines if line.startswith(f"frame {frame + 1} accepted ")]
         gone = sum(slot // SLOTS == frame for slot in lost)
@@ -126,6 +127,7 @@ def with_lost_slots(packets, frames, lost):
                                        + carried(packets, frame, lost)])
     equal("the lines that JSON makes", json_lines("out.json"), lines)
     equal("cells of refused slots in the picture", cells()[1]["refused 8 parity"], len(lost))
+    positions_drawn(FEW, lines)
 
 
 def damage():

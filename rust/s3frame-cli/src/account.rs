@@ -2,9 +2,10 @@
 use crate::failure::Failure;
 use crate::files::{Content, Files};
 use crate::frames::Layout;
+use crate::frames_picture;
 use crate::json::Json;
 use crate::outputs::Output;
-use crate::picture;
+use crate::positions::Positions;
 use crate::progress::Progress;
 use crate::report::Report;
 use crate::rows::{Row, Rows};
@@ -40,9 +41,28 @@ impl<C: Carried> Found<C> {
         }
     }
 
-    /// Notes what a refused slot lost.
+    /// Notes a refused slot.
     pub fn refused(&mut self, refused: Refused) {
         self.refused.push(refused);
+    }
+}
+
+/// What is drawn of all frames, and where it goes.
+struct Picture {
+    rows: Rows,
+    positions: Positions,
+    output: Output,
+}
+
+impl Picture {
+    /// Adds a frame.
+    fn add(&mut self, row: &Row, refused: &[Refused]) {
+        self.rows.add(row);
+        for refused in refused {
+            if let Some(position) = refused.position {
+                self.positions.add(refused.slot, position);
+            }
+        }
     }
 }
 
@@ -50,7 +70,7 @@ impl<C: Carried> Found<C> {
 pub struct Account<C> {
     report: Report,
     json: Option<Json>,
-    picture: Option<(Rows, Output)>,
+    picture: Option<Picture>,
     pub frames: u64,
     pub total: Tally<C>,
 }
@@ -60,7 +80,8 @@ impl<C: Carried> Account<C> {
     pub fn open(files: &mut Files, words: &MonitorWords, layout: &Layout) -> Result<Account<C>, Failure> {
         let json = files.create_named(words.json.as_deref(), Content::Text)?;
         let json = json.map(|output| Json::begin(output, &layout.opened)).transpose()?;
-        let picture = files.create_named(words.svg.as_deref(), Content::Text)?.map(|output| (Rows::new(), output));
+        let drawn = |output| Picture { rows: Rows::new(), positions: Positions::new(&layout.places), output };
+        let picture = files.create_named(words.svg.as_deref(), Content::Text)?.map(drawn);
         let report = files.report()?;
         Ok(Account { report, json, picture, frames: 0, total: Tally::default() })
     }
@@ -75,8 +96,8 @@ impl<C: Carried> Account<C> {
             found.stuff.iter().try_for_each(|stuff| report.line(format_args!("frame {frame} {stuff}")))?;
             report.line(format_args!("frame {frame} {}", found.tally))
         })?;
-        if let Some((rows, _)) = &mut self.picture {
-            rows.add(&found.row);
+        if let Some(picture) = &mut self.picture {
+            picture.add(&found.row, &found.refused);
         }
         self.json.as_mut().map_or(Ok(()), |json| json.frame(frame, found.tally, &found.refused, &found.stuff))
     }
@@ -88,8 +109,8 @@ impl<C: Carried> Account<C> {
         if let Some(json) = self.json {
             outputs.push(json.end(self.frames, self.total, left_over)?);
         }
-        if let Some((rows, mut output)) = self.picture {
-            output.write(picture::of_frames(&rows).as_bytes())?;
+        if let Some(Picture { rows, positions, mut output }) = self.picture {
+            output.write(frames_picture::of_frames(&rows, &positions).as_bytes())?;
             outputs.push(output);
         }
         Ok(outputs)

@@ -93,9 +93,20 @@ TLV
 pub const JSON_FORM: &str = "\
 JSON
   One document. `plan`, `mask` and `start` are the settings. `frames` is a list: each frame's
-  numbers as in its line; `refused`, the list of its refused slots; and `stuff`, the list of other
-  stuff bits than ones, each as `stuff`, their number, and `slots`, the accepted slots that have
-  them. `total` has the numbers of all frames, `left_over` the octets behind the last whole one.";
+  numbers as in its line; `refused`, the list of its refused slots, each as `slot`, `number`,
+  `word`, `lost` and `position`, which is null with 9; and `stuff`, the list of other stuff bits
+  than ones, each as `stuff`, their number, and `slots`, the accepted slots that have them.
+  `total` has the numbers of all frames, `left_over` the octets behind the last whole one.";
+
+pub const PICTURE_FORM: &str = "\
+PICTURE
+  Frames downward against slots, coloured by answer. Where frames are many, a row stands for
+  several, and a cell shows the worst answer in it.
+
+  Where slots are refused 8, two charts are below, with one axis of positions. The upper has a
+  cell for each slot and each stretch of 187 positions, coloured by how many times the lowest
+  failing position was in it; it is grey where the slot has no such positions, as a dummy has
+  none. The lower has a bar for each stretch: how many slots failed first there.";
 
 pub const POINT_FORM: &str = "\
 FILES

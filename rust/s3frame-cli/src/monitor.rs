@@ -120,7 +120,8 @@ impl<D: Delivery> Monitor<D> {
         state.read_slot(self.layout.table(place), coded, &mut self.source[..place.rate.source_octets()])
     }
 
-    /// Delivers header and data of a data slot that was accepted and notes its stuff bits, or notes what it lost.
+    /// Delivers header and data of a data slot that was accepted and notes its stuff bits, or notes what it lost and where its
+    /// parity broke.
     fn deliver(
         &mut self,
         slot: usize,
@@ -135,7 +136,7 @@ impl<D: Delivery> Monitor<D> {
                 self.headers.as_mut().map_or(Ok(()), |headers| headers.write(header))?;
                 found.accepted(slot, stuff);
             }
-            Err(refusal) => found.refused(Refused::new(slot + 1, refusal, self.delivery.refused(place))),
+            Err(refused) => found.refused(Refused::new(slot + 1, refused, self.delivery.refused(place))),
         }
         Ok(Answer::of(read.answer))
     }

@@ -1,9 +1,7 @@
-//! Pictures as SVG: a plan's slots, what became of the slots of frames, and what all pictures share.
+//! Pictures as SVG: a plan's slots, and what all pictures share.
 //!
 //! The colours differ in lightness and stay apart for colour-blind readers; dummies of a plan are hollow besides.
 use crate::plan::Run;
-use crate::rows::Rows;
-use crate::tally::Answer;
 use plotters::coord::Shift;
 use plotters::prelude::*;
 use s3frame::SLOTS;
@@ -22,29 +20,19 @@ pub const EDGE: u32 = 20;
 pub const WIDTH: u32 = LEFT_AXIS + SLOTS as u32 * SLOT_WIDTH + EDGE;
 /// The height of the title, and of a legend in one line below it.
 pub const LINE: u32 = 34;
-/// The side of a coloured square in a legend, and how far apart such squares stand: answers side by side, groups in lines.
+/// The side of a coloured square in a legend, and how far apart such squares stand: side by side, and groups in lines.
 const KEY: i32 = 14;
-const ANSWER_KEYS: i32 = 190;
+const KEYS: i32 = 190;
 const GROUP_KEYS: i32 = 24;
-/// The heights of rows of frames, which fill so much where that is between the two; and of a plan's strip.
-const ROWS: u32 = 600;
-const LOWEST_ROW: u32 = 4;
-const HIGHEST_ROW: u32 = 24;
-const LEAST_ROWS: u32 = 60;
+/// The height of a plan's strip.
 const STRIP: u32 = 80;
 
-/// How many labels an axis has at most: those of slots are tens.
-const SLOT_LABELS: usize = 13;
-const FRAME_LABELS: usize = 10;
+/// How many labels the axis of slots has at most: they are tens.
+pub const SLOT_LABELS: usize = 13;
 
-/// What each answer is called, and its colour.
-const ANSWERS: [(Answer, &str, RGBColor); 5] = [
-    (Answer::Accepted, "accepted", RGBColor(0x8A, 0xC6, 0xEE)),
-    (Answer::Dummy, "dummy", RGBColor(0xE6, 0xE6, 0xE6)),
-    (Answer::Parity, "refused 8 parity", RGBColor(0x2B, 0x0A, 0x3D)),
-    (Answer::Bch, "refused 9 BCH", RGBColor(0xC0, 0x3A, 0x0B)),
-    (Answer::OtherStuff, "accepted, other stuff bits", RGBColor(0xF0, 0xB4, 0x00)),
-];
+/// What is not there, and parity that fails.
+pub const ABSENT: RGBColor = RGBColor(0xE6, 0xE6, 0xE6);
+pub const FAILING: RGBColor = RGBColor(0x2B, 0x0A, 0x3D);
 
 /// The colours of a plan's groups, in their order.
 const GROUPS: [RGBColor; 8] = [
@@ -73,6 +61,12 @@ pub fn key(area: &Area, (x, y): (i32, i32), style: ShapeStyle, text: &str) -> Dr
     area.draw(&Text::new(text.to_string(), (x + KEY + 6, y), FONT))
 }
 
+/// A legend in one line below a title, side by side.
+pub fn legend<'a>(area: &Area, keys: impl IntoIterator<Item = (RGBColor, &'a str)>) -> Drawn {
+    let place = |number: i32| (LEFT_AXIS as i32 + KEYS * number, LINE as i32 + 6);
+    (0..).zip(keys).try_for_each(|(number, (colour, text))| key(area, place(number), colour.filled(), text))
+}
+
 pub fn title(area: &Area, text: &str) -> Drawn {
     area.draw(&Text::new(text.to_string(), (LEFT_AXIS as i32, 10), TITLE))
 }
@@ -85,56 +79,16 @@ pub fn with_axes<'a, 'b>(area: &'a Area<'b>) -> ChartBuilder<'a, 'static, SVGBac
     chart
 }
 
-/// The slots of frames, coloured by answer: slots to the right, frames downward.
-pub fn of_frames(rows: &Rows) -> String {
-    let count = rows.iter().count() as u32;
-    let height = count * (ROWS / count).clamp(LOWEST_ROW, HIGHEST_ROW);
-    svg((WIDTH, 2 * LINE + height.max(LEAST_ROWS) + LOWER_AXIS + EDGE), |area| {
-        let (head, body) = area.split_vertically(2 * LINE);
-        title(&head, &heading(rows))?;
-        for (place, (_, name, colour)) in (0..).zip(ANSWERS) {
-            key(&head, (LEFT_AXIS as i32 + ANSWER_KEYS * place, LINE as i32 + 6), colour.filled(), name)?;
-        }
-        chart_frames(&body, rows)
-    })
-}
-
-fn heading(rows: &Rows) -> String {
-    let each = match rows.each() {
-        1 => String::new(),
-        each => format!("; each row the worst of {each} frames"),
-    };
-    format!("Slots of frames 1 to {}, by answer{each}", rows.frames())
-}
-
-fn chart_frames(area: &Area, rows: &Rows) -> Drawn {
-    // Frames count downward, so they stand as numbers below 0.
-    let place = |frame: u64, side: f64| -(frame as f64 + side);
-    let mut chart =
-        with_axes(area).build_cartesian_2d(0.5..SLOTS as f64 + 0.5, place(rows.frames(), 0.5)..place(1, -0.5))?;
-    chart
-        .configure_mesh()
-        .disable_mesh()
-        .x_desc("slot")
-        .y_desc("frame")
-        .label_style(FONT)
-        .x_labels(SLOT_LABELS)
-        .y_labels(FRAME_LABELS.min(rows.frames() as usize))
-        .x_label_formatter(&|slot| whole(*slot))
-        .y_label_formatter(&|frame| whole(-frame))
-        .draw()?;
-    for (first, last, row) in rows.iter() {
-        let (top, bottom) = (place(first, -0.5), place(last, 0.5));
-        chart.draw_series(row.iter().zip(1..).map(|(answer, slot)| {
-            let (left, right) = sides(slot, slot);
-            Rectangle::new([(left, top), (right, bottom)], colour(*answer).filled())
-        }))?;
+/// The name of an axis, with the unit of its numbers, a power of ten.
+pub fn axis_name(name: &str, power: i32) -> String {
+    match power {
+        0 => name.to_string(),
+        power => format!("{name}, in units of 1e{power}"),
     }
-    Ok(())
 }
 
 /// A whole number as a label, and no label for others.
-fn whole(number: f64) -> String {
+pub fn whole(number: f64) -> String {
     if number.fract() == 0.0 {
         format!("{number}")
     } else {
@@ -142,12 +96,8 @@ fn whole(number: f64) -> String {
     }
 }
 
-fn colour(answer: Answer) -> RGBColor {
-    ANSWERS.iter().find(|(of, _, _)| *of == answer).expect("every answer has a colour").2
-}
-
 /// Where slots stand on their axis.
-fn sides(first: usize, last: usize) -> (f64, f64) {
+pub fn sides(first: usize, last: usize) -> (f64, f64) {
     (first as f64 - 0.5, last as f64 + 0.5)
 }
 

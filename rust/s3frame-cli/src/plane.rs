@@ -1,6 +1,8 @@
 //! The picture of points that were sent: dots in the plane of I and Q, each with its labels and how many symbols had it.
 use crate::coordinates::binary;
-use crate::picture::{key, svg, title, with_axes, Area, Drawn, EDGE, FONT, LEFT_AXIS, LINE, LOWER_AXIS, WIDTH};
+use crate::picture::{
+    axis_name, key, svg, title, with_axes, Area, Drawn, EDGE, FONT, LEFT_AXIS, LINE, LOWER_AXIS, WIDTH,
+};
 use crate::runs::runs;
 use crate::sent::Dot;
 use plotters::prelude::*;
@@ -90,10 +92,7 @@ impl Scale {
 
     /// The name of an axis, with the unit of its numbers.
     fn name(&self, coordinate: &str) -> String {
-        match self.power {
-            0 => coordinate.to_string(),
-            power => format!("{coordinate}, in units of 1e{power}"),
-        }
+        axis_name(coordinate, self.power)
     }
 }
 

@@ -1,5 +1,5 @@
 //! What becomes of the slots of frames and of what they carry, counted.
-use s3frame::{Refusal, StuffBits};
+use s3frame::{ReadRefusal, Refusal, StuffBits};
 use serde::Serialize;
 use std::fmt::{self, Display};
 use std::ops::AddAssign;
@@ -16,8 +16,8 @@ pub enum Answer {
 
 impl Answer {
     /// The answer of a data slot. Reading it at its place, with areas of their lengths, has no other refusals.
-    pub fn of(read: Result<StuffBits, Refusal>) -> Answer {
-        match read {
+    pub fn of(read: Result<StuffBits, ReadRefusal>) -> Answer {
+        match read.map_err(Refusal::from) {
             Ok(StuffBits::ONES) => Answer::Accepted,
             Ok(_) => Answer::OtherStuff,
             Err(Refusal::Bch) => Answer::Bch,
@@ -43,18 +43,21 @@ pub struct Tally<C> {
     pub carried: C,
 }
 
-/// A slot that was refused, with what it lost: the packets that its plan has it carry or, of TLV packets, its octets.
+/// A slot that was refused, with what it lost: the packets that its plan has it carry or, of TLV packets, its octets; and the
+/// lowest failing parity position, which a slot has that is refused for its parity.
 #[derive(Clone, Copy, Debug, PartialEq, Eq, Serialize)]
 pub struct Refused {
-    slot: usize,
+    pub slot: usize,
     number: u32,
     word: &'static str,
     lost: usize,
+    pub position: Option<u16>,
 }
 
 impl Refused {
-    pub fn new(slot: usize, refusal: Refusal, lost: usize) -> Refused {
-        Refused { slot, number: refusal.number(), word: refusal.word(), lost }
+    pub fn new(slot: usize, refused: ReadRefusal, lost: usize) -> Refused {
+        let ReadRefusal { refusal, position, .. } = refused;
+        Refused { slot, number: refusal.number(), word: refusal.word(), lost, position }
     }
 }
 
@@ -96,11 +99,12 @@ impl<C: Carried> Display for Tally<C> {
     }
 }
 
-/// As `slot 2 refused 8 parity lost 23`.
+/// As `slot 2 refused 8 parity lost 23 position 4711`, or `slot 3 refused 9 BCH lost 23`.
 impl Display for Refused {
     fn fmt(&self, to: &mut fmt::Formatter) -> fmt::Result {
-        let Refused { slot, number, word, lost } = self;
-        write!(to, "slot {slot} refused {number} {word} lost {lost}")
+        let Refused { slot, number, word, lost, position } = self;
+        write!(to, "slot {slot} refused {number} {word} lost {lost}")?;
+        position.map_or(Ok(()), |position| write!(to, " position {position}"))
     }
 }
 
@@ -115,5 +119,16 @@ mod tests {
         answers.into_iter().for_each(|answer| tally.answered(answer));
         assert_eq!(tally, Tally { accepted: 3, dummy: 1, parity: 0, bch: 1, other_stuff: 2, carried: () });
         assert_eq!(tally.refused(), 1);
+    }
+
+    #[test]
+    fn a_position_stands_with_parity_alone() {
+        let parity = Refused { slot: 2, number: 8, word: "parity", lost: 23, position: Some(4711) };
+        let bch = Refused { slot: 3, number: 9, word: "BCH", lost: 23, position: None };
+        assert_eq!(parity.to_string(), "slot 2 refused 8 parity lost 23 position 4711");
+        assert_eq!(bch.to_string(), "slot 3 refused 9 BCH lost 23");
+        let text = |refused| serde_json::to_string(&refused).expect("numbers and words can be written");
+        assert_eq!(text(parity), r#"{"slot":2,"number":8,"word":"parity","lost":23,"position":4711}"#);
+        assert_eq!(text(bch), r#"{"slot":3,"number":9,"word":"BCH","lost":23,"position":null}"#);
     }
 }

@@ -1,8 +1,8 @@
 //! The words of the command line.
 use crate::failure::Failure;
 use crate::help::{
-    page, usage, CARD_FORM, COORDINATE_FORM, FILE_NAMES, FRAME_FORM, JSON_FORM, MASK, PLAN_FORM, POINT_FORM,
-    POINT_USAGE, START, STATUS, TLV_FORM,
+    page, usage, CARD_FORM, COORDINATE_FORM, FILE_NAMES, FRAME_FORM, JSON_FORM, MASK, PICTURE_FORM, PLAN_FORM,
+    POINT_FORM, POINT_USAGE, START, STATUS, TLV_FORM,
 };
 use crate::number::Number;
 use clap::{Args, Parser, Subcommand};
@@ -137,9 +137,13 @@ pub struct CodeWords {
 /// Reads frames, writes their packets, and reports what became of every slot
 ///
 /// Writes the packets of the slots that are accepted. The report has a line for each slot that is refused, with number and
-/// word: 8 parity, 9 BCH; a line for each frame with its slots by answer and its packets: those that the plan carries, those
-/// that were written, those of refused slots, each counted for itself, and the null packets among those written; and such a
-/// line for all frames. Frames and slots are counted from 1.
+/// word, 8 parity or 9 BCH, and how many packets it lost; a line for each frame with its slots by answer and its packets:
+/// those that the plan carries, those that were written, those of refused slots, each counted for itself, and the null
+/// packets among those written; and such a line for all frames. Frames and slots are counted from 1.
+///
+/// The line of a slot that is refused 8 ends with where its parity broke, as `slot 2 refused 8 parity lost 23 position 4711`:
+/// the lowest position that fails, counted from 0 among the slot's parity bits, which are 29,546 at rate 1/3 and 4,114 at rate
+/// 9/10.
 ///
 /// A slot is accepted whatever its six stuff bits are. Slots where they are not all ones, as some makers send them, count as
 /// accepted, and in other_stuff besides. Lines before the frame's say which bits they were, as `stuff 62 slots 5,7-9`: the
@@ -151,7 +155,8 @@ pub struct CodeWords {
 ///
 /// Where the frames end inside one, those before it are read.
 #[derive(Args)]
-#[command(override_usage = usage("monitor"), after_long_help = page(&[PLAN_FORM, FRAME_FORM, FILE_NAMES, TLV_FORM, JSON_FORM, STATUS,
+#[command(override_usage = usage("monitor"), after_long_help = page(&[PLAN_FORM, FRAME_FORM, FILE_NAMES, TLV_FORM, JSON_FORM,
+    PICTURE_FORM, STATUS,
     "EXAMPLE\n  s3frame monitor --plan plan.txt --mask 0x1234567 --start 1 frames -o back.ts --svg slots.svg\n  \
      s3frame monitor --tlv --plan one-group.txt --mask 0x1234567 --start 1 frames -o back.tlv\n  \
      s3frame monitor --settings card --block 0 frames -o back.ts"]))]
@@ -175,7 +180,7 @@ pub struct MonitorWords {
     /// Writes the report for programs into this file
     #[arg(long, value_name = "FILE")]
     pub json: Option<PathBuf>,
-    /// Draws frames against slots into this file, coloured by answer; where frames are many, a row stands for several
+    /// Draws frames against slots into this file, coloured by answer, and slots against failing parity positions
     #[arg(long, value_name = "FILE")]
     pub svg: Option<PathBuf>,
 }
