@@ -36,15 +36,19 @@ fn read_frame(plan: &[Group], coded: &[u8]) -> (u8, [Vec<u8>; 3], Vec<u16>) {
     (number, [answers, stuff, source], positions)
 }
 
-/// A frame with the first bits of a few slots turned round, be they data slots or dummies.
+/// The slots that are damaged, be they data slots or dummies.
+const DAMAGED: [usize; 3] = [1, 50, 120];
+
+/// A frame with their first bits turned round.
 fn damaged_frame(coded: &[u8]) -> Vec<u8> {
-    [1, 50, 120].iter().fold(coded.to_vec(), |frame, number| damaged(&frame, slot::OCTETS * (number - 1)))
+    DAMAGED.iter().fold(coded.to_vec(), |frame, number| damaged(&frame, slot::OCTETS * (number - 1)))
 }
 
 fn print_read(title: &str, plan: &[Group], coded: &[u8]) {
-    let (number, areas, _) = read_frame(plan, coded);
+    let (number, areas, positions) = read_frame(plan, coded);
     let [answers, stuff, source] = areas.map(|octets| digest(&octets));
-    println!("{title} read {number} answers {answers} stuff {stuff} digest {source}");
+    let [first, middle, last] = DAMAGED.map(|number| positions[number - 1]);
+    println!("{title} read {number} answers {answers} stuff {stuff} positions {first} {middle} {last} digest {source}");
 }
 
 fn print_frame(number: u64, plan: &[Group]) {

@@ -20,15 +20,16 @@ pub fn with_parity_anew(code: &Code, coded: &[u8]) -> Vec<u8> {
     octets_of(&bits)
 }
 
-/// What reading a slot gives: number, stuff bits, register after it, the digest of the octets read, or of those found where it
-/// is refused; and the number of the lone parity check.
+/// What reading a slot gives: number, stuff bits, failing position, register after it, the digest of the octets read, or of those
+/// found where it is refused; and the number and position of the lone parity check.
 fn read_line(title: &str, code: &Code, register: u32, coded: &[u8]) {
     let (read, after) = read_slot(code, MASK, register, coded);
-    let (check, _) = Refused::told(&check_parity(code, coded));
-    let (number, _) = Refused::told(&read);
+    let (check, checked) = Refused::told(&check_parity(code, coded));
+    let (number, position) = Refused::told(&read);
     let stuff = read.as_ref().map_or(NO_STUFF, |read| read.stuff);
     let source = read.map_or_else(|_| octets(0, code.message_bits() / 8), |read| read.source);
-    println!("{title} read {number} stuff {stuff} check {check} register {after} digest {}", digest(&source));
+    let answers = format!("read {number} stuff {stuff} position {position} check {check} position {checked}");
+    println!("{title} {answers} register {after} digest {}", digest(&source));
 }
 
 fn slot_lines(title: &str, code: &Code, register: u32, source: &[u8]) -> u32 {
