@@ -1,4 +1,4 @@
--- `c_checks::read_tmcc`: the settings and `position` decide, then the call behind it.
+-- `c_checks::block::read_tmcc`: the settings and `position` decide, then the call behind it.
 use mathlib.Core.Path.{_≡_, sym, ap, _∙_}
 use Prim.Native.Nat.{ℕ}
 use borrow.Author.Needs.{needs}
@@ -6,8 +6,8 @@ use Rattle.lists.specs.Choice.{andThen}
 use Rattle.tmcc.specs.Calls.{settingsNumber}
 use Rattle.c_boundary.specs.Calls.{positionNumber}
 use Rattle.c_checks.specs.CallLaws.{read-refused, read-made}
-use Rattle.c_checks.proofs.read_tmcc.Statement.{statement}
-use Rattle.c_checks.proofs.read_tmcc.Tie as tie
+use Rattle.c_checks.proofs.block.read_tmcc.Statement.{statement}
+use Rattle.c_checks.proofs.block.read_tmcc.Tie as tie
 
 -- the number of the settings and of `position`
 number : (c : tie.After-with-position)

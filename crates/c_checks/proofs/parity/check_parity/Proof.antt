@@ -1,4 +1,4 @@
--- `c_checks::check_parity`: the rate and `position` decide, then the check behind it, for the rate as it was handed over.
+-- `c_checks::parity::check_parity`: the rate and `position` decide, then the check behind it, for the rate as it was handed over.
 use mathlib.Core.Path.{_≡_, sym, ap, _∙_}
 use Prim.Native.Nat.{ℕ}
 use borrow.Author.Needs.{needs}
@@ -7,8 +7,8 @@ use Rattle.slot.specs.Calls.{rateNumber, checkAnswer}
 use Rattle.c_boundary.specs.Narrow.{narrowed}
 use Rattle.c_boundary.specs.Calls.{positionNumber}
 use Rattle.c_checks.specs.CallLaws.{check-refused, check-made, check-given}
-use Rattle.c_checks.proofs.check_parity.Statement.{statement}
-use Rattle.c_checks.proofs.check_parity.Tie as tie
+use Rattle.c_checks.proofs.parity.check_parity.Statement.{statement}
+use Rattle.c_checks.proofs.parity.check_parity.Tie as tie
 
 -- the number of the rate and of `position`
 number : (c : tie.After-with-position)
