@@ -18,7 +18,7 @@ use Rattle.plan.specs.declared.Answer.{Answer}
 use Rattle.plan.specs.Records.{stateAt}
 use Rattle.plan.specs.States.{movedOn, soundNumber, stateNumber, passNumber, passed}
 use Rattle.plan.specs.StateLaws.{ready}
-use Rattle.codeword.specs.CallLaws.{Earlier, earlier-then, earlier-test, earlier-position}
+use Rattle.codeword.specs.AnswerLaws.{Earlier, earlier-then, earlier-test, earlier-position}
 use Rattle.codeword.specs.Reading.{noPosition}
 use Rattle.slot.specs.Slots.{slotOf}
 use Rattle.slot.specs.declared.SlotRead.{SlotRead}

@@ -13,7 +13,7 @@ use Rattle.refusal.specs.Answers.{Answered}
 use Rattle.refusal.specs.AnswerLaws.{refused}
 use Rattle.plan.specs.Rates.{rateOk, rowsOf}
 use Rattle.codeword.specs.declared.WordAnswer.{WordAnswer}
-use Rattle.codeword.specs.CallLaws.{Earlier, earlier-then, earlier-test, earlier-position}
+use Rattle.codeword.specs.AnswerLaws.{Earlier, earlier-then, earlier-test, earlier-position}
 use Rattle.codeword.specs.Reading.{wrongPosition, noPosition, positionWith}
 use Rattle.slot.specs.Reading.{failingIn}
 use Rattle.slot.specs.Calls.{rateNumber, checkNumber, checkAnswer}

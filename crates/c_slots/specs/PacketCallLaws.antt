@@ -13,7 +13,7 @@ use Rattle.plan.specs.declared.FrameState.{FrameState}
 use Rattle.plan.specs.declared.Answer.{Answer}
 use Rattle.plan.specs.Records.{stateAt}
 use Rattle.plan.specs.States.{stateNumber}
-use Rattle.codeword.specs.CallLaws.{earlier-then}
+use Rattle.codeword.specs.AnswerLaws.{earlier-then}
 use Rattle.codeword.specs.Reading.{noPosition}
 use Rattle.slot.specs.Slots.{slotOf}
 use Rattle.slot.specs.declared.SlotRead.{SlotRead}

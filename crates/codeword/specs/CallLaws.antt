@@ -1,21 +1,19 @@
--- Laws of what a call is lent: what a number 0 says, when it is 0, and that what is tested before a word is read is none of 8 and 9.
+-- Laws of what a call is lent: what a number 0 says, when it is 0, and that it is none of 8 and 9.
 use mathlib.Core.Path.{_≡_, refl}
-use mathlib.Core.Bool.{Bool, true, _&&_, _||_, false≢true}
+use mathlib.Core.Bool.{true, _&&_}
 use mathlib.Core.List.{List}
-use mathlib.Core.Logic.{inl, inr}
 use Prim.Native.Nat.{ℕ}
-use native.Mathlib.Decide.{ℕ-discrete}
 use native.Mathlib.Omega.{arith}
-use borrow.Author.Tests.{eqb-true, eq-eqb, ne-eqb}
-use lib.Dec.{eqb, ltb}
+use borrow.Author.Tests.{eqb-true, eq-eqb}
+use lib.Dec.{eqb}
 use lib.ListN.{length}
-use Rattle.lists.specs.Choice.{pick, andThen}
-use Rattle.lists.specs.ChoiceLaws.{and-left, and-right, pick-each, then-each, then-zero, then-first, not-refused}
-use Rattle.refusal.specs.Numbers.{LENGTH, TABLE, PARITY, BCH}
+use Rattle.lists.specs.Choice.{pick}
+use Rattle.lists.specs.ChoiceLaws.{and-left, and-right, then-zero, not-refused}
+use Rattle.refusal.specs.Numbers.{LENGTH, TABLE}
 use Rattle.parity_table.specs.Tables.{tableOk}
 use Rattle.codeword.specs.declared.Shape.{Shape}
 use Rattle.codeword.specs.Calls.{lentNumber}
-use Rattle.codeword.specs.Reading.{noPosition, positionWith, OfWord}
+use Rattle.codeword.specs.AnswerLaws.{Earlier, earlier-then, earlier-test}
 
 -- areas of the right lengths, and an accepted table
 pub record Lent (F : Shape) (n : ℕ) (t source coded : List ℕ) : Type 0 where
@@ -45,38 +43,7 @@ module _ (F : Shape) (n : ℕ) (t source coded : List ℕ) where
   unfolding lentNumber
   lent-lengths source′ coded′ l m = rw (l, m)
 
--- a number that is tested before the word itself is read: none of 8 and 9
-abbrev pub Earlier : ℕ → Type 0
-Earlier n = OfWord n → n ≡ 0
-
--- below 8 or above 9
-abbrev pub beside : ℕ → Bool
-beside n = ltb n PARITY || ltb BCH n
-
-pub earlier : (n : ℕ) → beside n ≡ true → Earlier n
-earlier n h (inl e) = e
-earlier n h (inr (inl e)) = absurd (false≢true (rw e at h))
-earlier n h (inr (inr e)) = absurd (false≢true (rw e at h))
-
-pub earlier-then : {a b : ℕ} → Earlier a → Earlier b → Earlier (andThen a b)
-earlier-then = then-each Earlier
-
-pub earlier-test : (b : Bool) (n : ℕ) → beside n ≡ true → Earlier (pick b 0 n)
-earlier-test b n h = pick-each Earlier b (earlier 0 refl) (earlier n h)
-
--- so a call whose number is 0, 8 or 9 is refused for nothing that is tested before
-pub earlier-none : (a b : ℕ) → Earlier a → OfWord (andThen a b) → a ≡ 0
-earlier-none a b h m = go (ℕ-discrete a 0)
-  where
-    go : Dec (a ≡ 0) → a ≡ 0
-    go (yes e) = e
-    go (no d) = h (rw (then-first a b d) at m)
-
--- and a position is told beside none of them
-pub earlier-position : (n p : ℕ) → Earlier n → (n ≡ 0 → ⊥) → positionWith n p ≡ noPosition
-earlier-position n p h z = rw (ne-eqb n PARITY (λ e. z (h (inr (inl e)))))
-
--- those of the lent areas and the table are such
+-- the numbers of the lent areas and the table are tested before the word itself is read
 pub lent-earlier : (F : Shape) (octets : ℕ) (t source coded : List ℕ) → Earlier (lentNumber F octets t source coded)
 unfolding lentNumber
 lent-earlier F octets t source coded =

@@ -1,12 +1,12 @@
--- Laws of a received word: its parts, what each of the two checks says of them, and the number that reading answers, 0
--- exactly when both checks hold.
+-- Laws of a received word: its parts, what each of the two checks says of them, the number that reading answers, 0 exactly when
+-- both checks hold, and its lowest failing position.
 use mathlib.Core.Path.{_≡_, refl, sym, ap, _∙_}
 use mathlib.Core.Bool.{Bool, true, false}
 use mathlib.Core.List.{List}
 use mathlib.Core.Logic.{_↔_}
 use Prim.Native.Nat.{ℕ, _+_, _*_, _<_, _≤_}
 use native.Mathlib.Omega.{arith}
-use borrow.Author.Tests.{eqb-true, eq-eqb, ne-eqb}
+use borrow.Author.Tests.{eqb-true, eq-eqb}
 use lib.Dec.{eqb}
 use lib.ListN.{length, length-drop}
 use lib.Seq.{length-take-le}
@@ -24,10 +24,9 @@ use Rattle.parity_table.specs.Tables.{positions}
 use Rattle.ldpc.specs.Parity.{parityOf}
 use Rattle.parity_check.specs.CheckLaws.{lowestWrong-before, lowestWrong-there, lowestWrong-within, lowestWrong-none}
 use Rattle.codeword.specs.declared.Shape.{Shape}
-use Rattle.codeword.specs.declared.WordAnswer.{WordAnswer}
 use Rattle.codeword.specs.Words.{runBits, parityInput}
 use Rattle.codeword.specs.WordLaws.{Fits}
-use Rattle.codeword.specs.Reading.{runIn, parityIn, takenOff, messageIn, bchIn, tailIn, wrongPosition, parityNumber, positionWith, bchRight, checksNumber, wordNumber, Good, Failing, PositionTold}
+use Rattle.codeword.specs.Reading.{runIn, parityIn, takenOff, messageIn, bchIn, tailIn, wrongPosition, parityNumber, bchRight, checksNumber, wordNumber, Good, Failing}
 
 -- the octets of a received word
 pub record Received (F : Shape) (c : List ℕ) : Type 0 where
@@ -98,6 +97,11 @@ word-good F t mask r c f l =
       (λ g. then-both (parityNumber F (wrongPosition F t c)) _ (p .1 (g .parity)) (ap (λ x. pick x 0 BCH) (b .1 (g .bch)))),
     )
 
+-- a position is a number of 16 bits
+pub wrong-few : (F : Shape) (t c : List ℕ) → wrongPosition F t c ≤ positions (F .rows)
+unfolding wrongPosition
+wrong-few F t c = lowestWrong-within (F .rows) t (parityInput F (runIn F c)) (parityIn F c)
+
 -- 8 is the parity's
 pub word-parity : (F : Shape) (t : List ℕ) (mask r : ℕ) (c : List ℕ) → wordNumber F t mask r c ≡ PARITY → parityNumber F (wrongPosition F t c) ≡ PARITY
 unfolding wordNumber checksNumber parityNumber
@@ -108,17 +112,8 @@ word-parity F t mask r c h = go (eqb (wrongPosition F t c) (positions (F .rows))
     go true false e = absurd (omega arith)
     go true true e = absurd (omega arith)
 
--- an answer is its number and its position
-pub answer≡ : {m n x y : ℕ} → m ≡ n → x ≡ y → _≡_ {A = WordAnswer} (record { number = m; position = x }) (record { number = n; position = y })
-answer≡ p q = cc
-
--- a position is a number of 16 bits
-pub wrong-few : (F : Shape) (t c : List ℕ) → wrongPosition F t c ≤ positions (F .rows)
-unfolding wrongPosition
-wrong-few F t c = lowestWrong-within (F .rows) t (parityInput F (runIn F c)) (parityIn F c)
-
 -- with 8 the lowest wrong position is the lowest failing one
-failing-there : (F : Shape) (t c : List ℕ) → parityNumber F (wrongPosition F t c) ≡ PARITY → Failing F t c (wrongPosition F t c)
+pub failing-there : (F : Shape) (t c : List ℕ) → parityNumber F (wrongPosition F t c) ≡ PARITY → Failing F t c (wrongPosition F t c)
 unfolding wrongPosition parityNumber
 failing-there F t c h =
     let u = parityInput F (runIn F c) in
@@ -129,13 +124,4 @@ failing-there F t c h =
       below = l;
       wrong = λ e. lowestWrong-there (F .rows) t u (parityIn F c) l (sym e);
       right = λ j i. sym (lowestWrong-before (F .rows) t u (parityIn F c) j i);
-    }
-
--- so it is told beside every number that is 8 for the parity alone
-pub position-told : (F : Shape) (t c : List ℕ) (n : ℕ) → (n ≡ PARITY → parityNumber F (wrongPosition F t c) ≡ PARITY)
-    → PositionTold F t c n (positionWith n (wrongPosition F t c))
-position-told F t c n h =
-    record {
-      failing = λ e. rw (eq-eqb n PARITY e) (failing-there F t c (h e));
-      none = λ d. rw (ne-eqb n PARITY d);
     }

@@ -22,7 +22,8 @@ use Rattle.plan.specs.Places.{groupAt, carries}
 use Rattle.plan.specs.PlaceLaws.{group-holds}
 use Rattle.plan.specs.States.{soundNumber, stateNumber}
 use Rattle.plan.specs.StateLaws.{Ready, ready, ready-yes}
-use Rattle.codeword.specs.CallLaws.{Lent, lent, lent-yes, Earlier, earlier, earlier-then, earlier-test, lent-earlier}
+use Rattle.codeword.specs.CallLaws.{Lent, lent, lent-yes, lent-earlier}
+use Rattle.codeword.specs.AnswerLaws.{Earlier, earlier, earlier-then, earlier-test}
 use Rattle.slot.specs.Slots.{sourceOctets, slotShape}
 use Rattle.slot.specs.Calls.{rowsAt, dataNumber, slotNumber, rateNumber, formNumber}
 

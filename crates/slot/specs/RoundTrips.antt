@@ -19,7 +19,8 @@ use Rattle.plan.specs.declared.FrameState.{FrameState}
 use Rattle.plan.specs.Sizes.{slotWidth}
 use Rattle.plan.specs.States.{soundNumber}
 use Rattle.plan.specs.StateLaws.{sound-yes, moved-sound}
-use Rattle.codeword.specs.CallLaws.{lent-lengths, earlier-none}
+use Rattle.codeword.specs.CallLaws.{lent-lengths}
+use Rattle.codeword.specs.AnswerLaws.{earlier-none}
 use Rattle.codeword.specs.WordLaws.{Message}
 use Rattle.codeword.specs.Reading.{takenOff, messageIn, Good}
 use Rattle.codeword.specs.ReadingLaws.{Received}

@@ -1,5 +1,5 @@
 -- Laws of the lone check: what a number 0 says of what it is lent, and its answer where the form is refused and where it is not.
-use mathlib.Core.Path.{_≡_, ap, _∙_}
+use mathlib.Core.Path.{_≡_}
 use mathlib.Core.Bool.{true}
 use mathlib.Core.List.{List}
 use Prim.Native.Nat.{ℕ}
@@ -8,13 +8,13 @@ use lib.Dec.{eqb}
 use lib.ListN.{length}
 use borrow.Author.Tests.{eqb-true}
 use Rattle.lists.specs.Choice.{pick}
-use Rattle.lists.specs.ChoiceLaws.{then-zero, then-first, then-next, not-refused}
+use Rattle.lists.specs.ChoiceLaws.{then-zero, not-refused}
 use Rattle.refusal.specs.Numbers.{PLAN, LENGTH, TABLE}
 use Rattle.parity_table.specs.Tables.{tableOk}
 use Rattle.plan.specs.Rates.{rateOk, rowsOf}
 use Rattle.plan.specs.Sizes.{slotOctets}
 use Rattle.codeword.specs.declared.WordAnswer.{WordAnswer}
-use Rattle.codeword.specs.CallLaws.{earlier-position}
+use Rattle.codeword.specs.AnswerLaws.{answer-refused, answer-looked}
 use Rattle.codeword.specs.Reading.{noPosition, wordAnswer}
 use Rattle.slot.specs.Reading.{failingIn, checkedNumber}
 use Rattle.slot.specs.Calls.{rateNumber, formNumber, checkNumber, checkAnswer}
@@ -44,12 +44,8 @@ checkedAnswer R t c = wordAnswer (checkedNumber R t c) (failingIn R t c)
 module _ (rate : ℕ) (t c : List ℕ) where
   pub check-refused : (formNumber rate t c ≡ 0 → ⊥) → checkAnswer rate t c ≡ record { number = formNumber rate t c; position = noPosition }
   unfolding checkAnswer checkNumber
-  check-refused h =
-      let n = formNumber rate t c in
-      let p = failingIn (rowsOf rate) t c in
-      ap (λ (m : ℕ). wordAnswer m p) (then-first n _ h)
-      ∙ ap (λ (x : ℕ). record { number = n; position = x }) (earlier-position n p (form-earlier rate t c) h)
+  check-refused = answer-refused (formNumber rate t c) _ _ (form-earlier rate t c)
 
   pub check-looked : formNumber rate t c ≡ 0 → checkAnswer rate t c ≡ checkedAnswer (rowsOf rate) t c
   unfolding checkAnswer checkNumber
-  check-looked h = ap (λ (m : ℕ). wordAnswer m (failingIn (rowsOf rate) t c)) (then-next (formNumber rate t c) _ h)
+  check-looked = answer-looked (formNumber rate t c) _ _

@@ -7,7 +7,7 @@ use borrow.Author.Tests.{eq-eqb, ne-eqb}
 use Rattle.lists.specs.Choice.{pick}
 use Rattle.lists.specs.ChoiceLaws.{then-first, then-next}
 use Rattle.plan.specs.declared.FrameState.{FrameState}
-use Rattle.codeword.specs.CallLaws.{earlier-position}
+use Rattle.codeword.specs.AnswerLaws.{earlier-position}
 use Rattle.codeword.specs.Reading.{positionWith}
 use Rattle.slot.specs.declared.SlotRead.{SlotRead}
 use Rattle.slot.specs.Reading.{receivedNumber, stuffIn, stuffWith, notRead, sourceOf, failingIn}

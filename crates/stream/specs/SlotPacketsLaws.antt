@@ -21,7 +21,7 @@ use Rattle.plan.specs.PlaceLaws.{group-holds}
 use Rattle.plan.specs.States.{stateNumber}
 use Rattle.packets.specs.Packets.{packed, packNumber, unpackNumber}
 use Rattle.packets.specs.PacketLaws.{sized-yes}
-use Rattle.codeword.specs.CallLaws.{Earlier, earlier-then, earlier-test}
+use Rattle.codeword.specs.AnswerLaws.{Earlier, earlier-then, earlier-test}
 use Rattle.slot.specs.Slots.{messageBits, sourceOctets}
 use Rattle.slot.specs.Reading.{sourceOf}
 use Rattle.slot.specs.Calls.{rowsAt, dataNumber, slotNumber, readNumber, readAnswer, readArea}

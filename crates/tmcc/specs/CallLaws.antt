@@ -2,14 +2,13 @@
 use mathlib.Core.Path.{_≡_, refl, sym, ap, _∙_}
 use mathlib.Core.Bool.{true}
 use mathlib.Core.List.{List}
-use mathlib.Core.Logic.{_↔_, inl, inr}
+use mathlib.Core.Logic.{_↔_}
 use Prim.Native.Nat.{ℕ}
 use native.Mathlib.Omega.{arith}
 use borrow.Author.Tests.{eqb-true, eq-eqb}
 use lib.ListN.{length, drop, replicate, length-drop}
 use lib.Seq.{take-all}
-use Rattle.lists.specs.Choice.{pick}
-use Rattle.lists.specs.ChoiceLaws.{then-zero, then-first, then-next, not-refused, and-left, and-right}
+use Rattle.lists.specs.ChoiceLaws.{then-zero, not-refused, and-left, and-right}
 use Rattle.lists.specs.RunLaws.{below-drop}
 use Rattle.refusal.specs.Numbers.{REGISTER, TAIL}
 use Rattle.bits.specs.Digits.{digits, number}
@@ -20,7 +19,8 @@ use Rattle.dispersal.specs.Register.{maskOk, registerOk, settingsOk}
 use Rattle.codeword.specs.CallLaws as words
 use Rattle.codeword.specs.CallLaws.{Lent as LentWord}
 use Rattle.codeword.specs.Reading.{wrongPosition, noPosition, wordAnswer, wordNumber, PositionTold}
-use Rattle.codeword.specs.ReadingLaws.{word-parity, position-told}
+use Rattle.codeword.specs.ReadingLaws.{word-parity}
+use Rattle.codeword.specs.AnswerLaws.{Earlier, earlier-then, earlier-test, answer-refused, answer-looked, position-told}
 use Rattle.plan.specs.Sizes.{blockWidth}
 use Rattle.tmcc.specs.Blocks.{sourceOctets, messageBits, blockShape}
 use Rattle.tmcc.specs.Calls.{settingsNumber, lentNumber, tailOk, codeNumber, readNumber, readAnswer}
@@ -71,36 +71,28 @@ codable mask start t source block h =
     record { lent = lent mask start t source block (a .0); tail = not-refused (tailOk source) TAIL (omega arith) (a .1) }
 
 -- the numbers tested before the block itself is read are neither 8 nor 9
-pub settings-earlier : (mask start : ℕ) → words.Earlier (settingsNumber mask start)
+pub settings-earlier : (mask start : ℕ) → Earlier (settingsNumber mask start)
 unfolding settingsNumber
-settings-earlier mask start = words.earlier-test (settingsOk blockWidth mask start) REGISTER refl
+settings-earlier mask start = earlier-test (settingsOk blockWidth mask start) REGISTER refl
 
-pub lent-earlier : (mask start : ℕ) (t source block : List ℕ) → words.Earlier (lentNumber mask start t source block)
+pub lent-earlier : (mask start : ℕ) (t source block : List ℕ) → Earlier (lentNumber mask start t source block)
 unfolding lentNumber
 lent-earlier mask start t source block =
-    words.earlier-then (settings-earlier mask start) (words.lent-earlier blockShape sourceOctets t source block)
+    earlier-then (settings-earlier mask start) (words.lent-earlier blockShape sourceOctets t source block)
 
 -- the answer of a reading: where it is refused before the block is looked at, and where it is not
 module _ (mask start : ℕ) (t block source : List ℕ) where
   pub read-refused : (lentNumber mask start t source block ≡ 0 → ⊥)
       → readAnswer mask start t block source ≡ record { number = lentNumber mask start t source block; position = noPosition }
   unfolding readAnswer readNumber
-  read-refused h =
-      let n = lentNumber mask start t source block in
-      let p = wrongPosition blockShape t block in
-      ap (λ (m : ℕ). wordAnswer m p) (then-first n _ h)
-      ∙ ap (λ (x : ℕ). record { number = n; position = x }) (words.earlier-position n p (lent-earlier mask start t source block) h)
+  read-refused = answer-refused (lentNumber mask start t source block) _ _ (lent-earlier mask start t source block)
 
   pub read-looked : lentNumber mask start t source block ≡ 0
       → readAnswer mask start t block source ≡ wordAnswer (wordNumber blockShape t mask start block) (wrongPosition blockShape t block)
   unfolding readAnswer readNumber
-  read-looked h = ap (λ (m : ℕ). wordAnswer m (wrongPosition blockShape t block)) (then-next (lentNumber mask start t source block) _ h)
+  read-looked = answer-looked (lentNumber mask start t source block) _ _
 
   -- with 8 the position is the lowest failing one
   pub read-told : PositionTold blockShape t block (readAnswer mask start t block source .number) (readAnswer mask start t block source .position)
   unfolding readAnswer readNumber
-  read-told =
-      let n = lentNumber mask start t source block in
-      let found = wordNumber blockShape t mask start block in
-      position-told blockShape t block _
-      (λ e. word-parity blockShape t mask start block (sym (then-next n found (words.earlier-none n found (lent-earlier mask start t source block) (inr (inl e)))) ∙ e))
+  read-told = position-told blockShape t block _ _ (lent-earlier mask start t source block) (word-parity blockShape t mask start block)

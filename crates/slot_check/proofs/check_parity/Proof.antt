@@ -4,7 +4,7 @@ use Prim.Native.Nat.{ℕ}
 use borrow.Author.Needs.{needs}
 use lib.ListN.{length-replicate}
 use Rattle.plan.specs.RateLaws.{rate-rows}
-use Rattle.codeword.specs.ReadingLaws.{answer≡}
+use Rattle.codeword.specs.AnswerLaws.{answer≡}
 use Rattle.slot.specs.Calls.{formNumber}
 use Rattle.slot_check.specs.FormLaws.{formed, checkedAnswer, check-refused, check-looked}
 use Rattle.slot_check.proofs.check_parity.Statement.{statement}

@@ -4,7 +4,8 @@ use native.Mathlib.Omega.{arith}
 use borrow.Author.Needs.{needs}
 use Rattle.codeword.specs.declared.Shape.{Shape}
 use Rattle.codeword.specs.Reading.{wrongPosition, parityNumber, positionWith}
-use Rattle.codeword.specs.ReadingLaws.{wrong-few, answer≡}
+use Rattle.codeword.specs.ReadingLaws.{wrong-few}
+use Rattle.codeword.specs.AnswerLaws.{answer≡}
 use Rattle.slot.specs.Slots.{slotShape}
 use Rattle.slot.specs.SlotLaws.{fits}
 use Rattle.slot.specs.Reading.{failingIn, checkedNumber}

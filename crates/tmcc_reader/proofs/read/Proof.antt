@@ -7,7 +7,8 @@ use borrow.Author.Needs.{needs}
 use lib.Seq.{length-take-le}
 use Rattle.refusal.specs.AnswerLaws.{refused, accepted}
 use Rattle.codeword.specs.Reading.{messageIn}
-use Rattle.codeword.specs.ReadingLaws.{takenOff-bits, answer≡}
+use Rattle.codeword.specs.ReadingLaws.{takenOff-bits}
+use Rattle.codeword.specs.AnswerLaws.{answer≡}
 use Rattle.codeword.specs.Needs.{ReadOf}
 use Rattle.tmcc.specs.Blocks.{blockShape, tailed, sourceOf}
 use Rattle.tmcc_reader.proofs.read.Statement.{statement}

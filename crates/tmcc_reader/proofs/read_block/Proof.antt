@@ -6,7 +6,7 @@ use lib.ListN.{length-replicate}
 use Rattle.lists.specs.ChoiceLaws.{then-first, then-next}
 use Rattle.refusal.specs.AnswerLaws.{refused}
 use Rattle.dispersal.specs.RegisterLaws.{register-is}
-use Rattle.codeword.specs.ReadingLaws.{answer≡}
+use Rattle.codeword.specs.AnswerLaws.{answer≡}
 use Rattle.tmcc.specs.BlockLaws.{fits}
 use Rattle.tmcc.specs.Calls.{lentNumber, readNumber}
 use Rattle.tmcc.specs.CallLaws.{lent, read-refused, read-looked}
