@@ -6,11 +6,14 @@ ghost use lib.ListN.{length};
 ghost use Rattle.lists.specs.Choice.{pick};
 ghost use Rattle.c_tlv.specs.Calls.{Filled, Received};
 
+// How many numbers `next` has.
+const NEXT: usize = 2;
+
 // Puts the two numbers that a call returns, where the area has their length.
 fn put_two(first: usize, second: usize, next: &mut [u64])
     ensures { λ _. ⌜ now (next .exit) ≡ pick (eqb (length (now (next .entry))) 2) (first ∷ second ∷ []) (now (next .entry)) ⌝ }
 {
-    if next.len() == 2 {
+    if next.len() == NEXT {
         next[0] = first as u64;
         next[1] = second as u64;
     }
@@ -32,7 +35,7 @@ pub fn fill(
     let before = taken as usize;
     let short = owed as usize;
     let lent = tlv_fill::lent_number(k, packets.len(), before, short, slots.len(), begins.len());
-    let number = c_boundary::with_length(lent, next.len(), 2);
+    let number = c_boundary::with_length(lent, next.len(), NEXT);
     if number != 0 {
         put_two(0, 0, next);
         return number;
@@ -57,7 +60,7 @@ pub fn read(
     let k = c_boundary::narrow(rate);
     let from = first as usize;
     let lent = tlv_read::read_number(k, slots, begins, lost, from, packets.len());
-    let number = c_boundary::with_length(lent, next.len(), 2);
+    let number = c_boundary::with_length(lent, next.len(), NEXT);
     if number != 0 {
         put_two(0, 0, next);
         return number;

@@ -33,8 +33,8 @@ pub extern "C" fn s3_code_slot(
     )
 }
 
-// Reads the next slot into header and data octets, and puts its stuff bits into `report`; a refusal leaves the octets as they
-// were, and `next` too unless the slot itself was refused.
+// Reads the next slot into header and data octets, and puts its stuff bits and failing position into `report`; a refusal leaves
+// the octets as they were, and `next` too unless the slot itself was refused.
 #[no_mangle]
 pub extern "C" fn s3_read_slot(
     plan: &[u8],
@@ -94,8 +94,8 @@ pub extern "C" fn s3_code_packets(
     )
 }
 
-// Reads the next slot into its header and packets, and puts its stuff bits into `report`; a refusal leaves header and packets
-// as they were, and `next` too unless the slot itself was refused.
+// Reads the next slot into its header and packets, and puts its stuff bits and failing position into `report`; a refusal leaves
+// header and packets as they were, and `next` too unless the slot itself was refused.
 #[no_mangle]
 pub extern "C" fn s3_read_packets(
     plan: &[u8],

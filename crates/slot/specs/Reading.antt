@@ -7,7 +7,8 @@ use lib.ListN.{take, drop}
 use Rattle.lists.specs.Choice.{pick}
 use Rattle.bits.specs.Digits.{number}
 use Rattle.bits.specs.Octets.{bitsOf, octetsOf}
-use Rattle.codeword.specs.Reading.{takenOff, messageIn, tailIn, wrongPosition, parityNumber, noPosition, wordNumber, OfWord, withTail}
+use Rattle.codeword.specs.declared.WordAnswer.{WordAnswer}
+use Rattle.codeword.specs.Reading.{takenOff, messageIn, tailIn, wrongPosition, parityNumber, noPosition, wordAnswer, wordNumber, OfWord, withTail}
 use Rattle.plan.specs.declared.FrameState.{FrameState}
 use Rattle.slot.specs.declared.SlotRead.{SlotRead}
 use Rattle.slot.specs.Slots.{sourceOctets, coveredBits, stuffBits, slotShape}
@@ -58,6 +59,10 @@ failingIn R t c = wrongPosition (slotShape R) t c
 -- 8 alone, whatever the slot's dispersal
 unfoldable pub checkedNumber : ℕ → List ℕ → List ℕ → ℕ
 checkedNumber R t c = parityNumber (slotShape R) (wrongPosition (slotShape R) t c)
+
+-- with where the parity broke
+abbrev pub checkedAnswer : ℕ → List ℕ → List ℕ → WordAnswer
+checkedAnswer R t c = wordAnswer (checkedNumber R t c) (failingIn R t c)
 
 -- the numbers with which a reading moves on: 0, and "8, 9 .. move the slot reader on one place"
 abbrev pub MovesOn : ℕ → Type 0

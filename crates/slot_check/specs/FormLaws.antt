@@ -13,10 +13,9 @@ use Rattle.refusal.specs.Numbers.{PLAN, LENGTH, TABLE}
 use Rattle.parity_table.specs.Tables.{tableOk}
 use Rattle.plan.specs.Rates.{rateOk, rowsOf}
 use Rattle.plan.specs.Sizes.{slotOctets}
-use Rattle.codeword.specs.declared.WordAnswer.{WordAnswer}
 use Rattle.codeword.specs.AnswerLaws.{answer-refused, answer-looked}
-use Rattle.codeword.specs.Reading.{noPosition, wordAnswer}
-use Rattle.slot.specs.Reading.{failingIn, checkedNumber}
+use Rattle.codeword.specs.Reading.{noPosition}
+use Rattle.slot.specs.Reading.{checkedAnswer}
 use Rattle.slot.specs.Calls.{rateNumber, formNumber, checkNumber, checkAnswer}
 use Rattle.slot.specs.CallLaws.{form-earlier}
 
@@ -36,10 +35,6 @@ formed rate t c h =
       whole = eqb-true (length c) slotOctets (not-refused (eqb (length c) slotOctets) LENGTH (omega arith) (b .0));
       table = not-refused (tableOk (rowsOf rate) t) TABLE (omega arith) (b .1);
     }
-
--- the answer of a slot whose form is right: 8 alone, and where the parity broke
-abbrev pub checkedAnswer : ℕ → List ℕ → List ℕ → WordAnswer
-checkedAnswer R t c = wordAnswer (checkedNumber R t c) (failingIn R t c)
 
 module _ (rate : ℕ) (t c : List ℕ) where
   pub check-refused : (formNumber rate t c ≡ 0 → ⊥) → checkAnswer rate t c ≡ record { number = formNumber rate t c; position = noPosition }

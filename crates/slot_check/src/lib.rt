@@ -1,8 +1,8 @@
 // The lone parity check.
 ghost use mathlib.Core.Path.{_≡_};
+ghost use Rattle.slot.specs.Reading.{checkedAnswer};
 ghost use Rattle.slot.specs.Calls.{rateNumber, formNumber, checkAnswer};
 ghost use Rattle.slot.specs.Areas.{Checked};
-ghost use Rattle.slot_check.specs.FormLaws.{checkedAnswer};
 use codeword::WordAnswer;
 
 // The refusal of the rate, or 0.

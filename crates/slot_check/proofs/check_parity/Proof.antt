@@ -5,8 +5,9 @@ use borrow.Author.Needs.{needs}
 use lib.ListN.{length-replicate}
 use Rattle.plan.specs.RateLaws.{rate-rows}
 use Rattle.codeword.specs.AnswerLaws.{answer≡}
+use Rattle.slot.specs.Reading.{checkedAnswer}
 use Rattle.slot.specs.Calls.{formNumber}
-use Rattle.slot_check.specs.FormLaws.{formed, checkedAnswer, check-refused, check-looked}
+use Rattle.slot_check.specs.FormLaws.{formed, check-refused, check-looked}
 use Rattle.slot_check.proofs.check_parity.Statement.{statement}
 use Rattle.slot_check.proofs.check_parity.Tie as tie
 
