@@ -1,15 +1,21 @@
 /* ISDB-S3 slot framer and its reader: slots, whole frames, TMCC blocks, symbols as labels and as signal points, TS packets,
- * TLV packets, and settings on a card.
+ * TLV packets, plans as text, and settings on a card.
  *
- * Every call but those under "What to lend" answers a number: 0 where it is accepted, else the refusal of the first test that
- * failed; s3_word gives its word. A call tests in the order in which its numbers are listed. Unless a call says otherwise, a
- * refusal leaves every area as it was found.
+ * Every call but those under "What to lend" and s3_plan_list answers a number: 0 where it is accepted, else the refusal of the
+ * first test that failed; s3_word gives its word. It answers the number itself, or a struct by value in which it stands first.
+ * A call tests in the order in which its numbers are listed. A refusal leaves every area as it was found; what else is in the
+ * struct is then 0, or what the call says.
  *
- * An area is a pointer and its length in elements. A pointer is never null, also where the length is 0, and an area that is
- * written overlaps no other area of the call. The calls keep no state and need no more than 256 KiB of stack. */
+ * An area is a pointer and its length in elements. A pointer is aligned as its elements are, and points to as many of them as
+ * the length says; where the length is 0 nothing is read or written, and the pointer may be null, as that of an empty
+ * std::vector is. An area that is written overlaps no other area of the call. The calls keep no state: they may be made by any
+ * number of threads at once, and need no more than 256 KiB of stack. */
 #ifndef S3FRAME_H
 #define S3FRAME_H
 
+#ifndef __cplusplus
+#include <stdbool.h>
+#endif
 #include <stddef.h>
 #include <stdint.h>
 
@@ -17,8 +23,9 @@
 extern "C" {
 #endif
 
-/* The version of the library: 10,000 times the major number, 100 times the minor one, and the patch number. */
-#define S3_VERSION 800
+/* The version of the library that this header belongs to: 10,000 times the major number, 100 times the minor one, and the
+ * patch number. s3_version answers that of the library that is linked. */
+#define S3_VERSION 900
 
 /* A result that nobody looks at is a mistake, of which the compiler warns. */
 #if defined(__cplusplus) && __cplusplus >= 201703L
@@ -32,24 +39,26 @@ extern "C" {
 #endif
 
 /* The numbers. */
-#define S3_ACCEPTED 0u
-#define S3_PLAN 1u        /* not 1 to 8 groups, or slot 0; in a call without a plan, an unknown modulation or rate */
-#define S3_DUMMY 2u       /* a dummy where data was asked for, or a data slot at a pass */
-#define S3_FULL 3u        /* slot 120 is past */
-#define S3_LENGTH 4u      /* an area isn't exactly its length; a number of a TLV call outside its bounds; symbol 0 of BPSK */
-#define S3_TABLE 5u       /* a parity table breaks its form */
-#define S3_REGISTER 6u    /* start or register is 0 or too wide; mask is too wide or lacks the top bit */
-#define S3_SYNC 7u        /* a TS packet doesn't begin 0x47 */
-#define S3_PARITY 8u      /* a received LDPC parity bit is wrong */
-#define S3_BCH 9u         /* the received BCH bits are wrong */
-#define S3_TAIL 11u       /* one of the last two TMCC bits is 1 */
-#define S3_LABEL 12u      /* a label is 2^modulation or more */
-#define S3_VALUE 13u      /* a group's modulation or rate is unknown, or its slots are 0 or no multiple of 5 */
-#define S3_ORDER 14u      /* the groups do not fall */
-#define S3_TOTAL 15u      /* the slots of all groups do not add to 120 */
-#define S3_PACKET 16u     /* a TLV head is wrong, a null's body isn't all 0xFF, or a head or length runs past the packets */
-#define S3_BLOCK 17u      /* a card has no block of this number, or its mark, edition or sum is wrong, or a filler isn't 0 */
-#define S3_COORDINATE 18u /* a coordinate that is used is infinite or not a number */
+enum s3_refusal {
+    S3_ACCEPTED = 0,
+    S3_REFUSED_PLAN = 1,        /* not 1 to 8 groups, slot 0, or no plan's text; without a plan, an unknown modulation or rate */
+    S3_REFUSED_DUMMY = 2,       /* a dummy where data was asked for, or a data slot at a pass */
+    S3_REFUSED_FULL = 3,        /* slot 120 is past */
+    S3_REFUSED_LENGTH = 4,      /* an area isn't exactly its length; a number of a TLV call outside its bounds; symbol 0 of BPSK */
+    S3_REFUSED_TABLE = 5,       /* a parity table breaks its form */
+    S3_REFUSED_REGISTER = 6,    /* start or register is 0 or too wide; mask is too wide or lacks the top bit */
+    S3_REFUSED_SYNC = 7,        /* a TS packet doesn't begin 0x47 */
+    S3_REFUSED_PARITY = 8,      /* a received LDPC parity bit is wrong */
+    S3_REFUSED_BCH = 9,         /* the received BCH bits are wrong */
+    S3_REFUSED_TAIL = 11,       /* one of the last two TMCC bits is 1 */
+    S3_REFUSED_LABEL = 12,      /* a label is 2^modulation or more */
+    S3_REFUSED_VALUE = 13,      /* a group's modulation or rate is unknown, or its slots are 0 or no multiple of 5 */
+    S3_REFUSED_ORDER = 14,      /* the groups do not fall */
+    S3_REFUSED_TOTAL = 15,      /* the slots of all groups do not add to 120 */
+    S3_REFUSED_PACKET = 16,     /* a TLV head is wrong, a null's body isn't all 0xFF, or a head or length runs past the packets */
+    S3_REFUSED_BLOCK = 17,      /* a card has no block of this number, or its mark, edition or sum is wrong, or a filler isn't 0 */
+    S3_REFUSED_COORDINATE = 18  /* a coordinate that is used is infinite or not a number */
+};
 
 /* The word of a number; that of 0 is "accepted", and a number that no call answers has none, "unknown". */
 S3_RESULT static inline const char *s3_word(uint32_t number) {
@@ -59,29 +68,21 @@ S3_RESULT static inline const char *s3_word(uint32_t number) {
     return number < sizeof words / sizeof *words ? words[number] : "unknown";
 }
 
-/* Lengths of areas. */
-#define S3_NEXT 2u                /* numbers of `next`: next slot, register */
-#define S3_REPORT 2u              /* numbers of `report`: the stuff bits, the failing position */
-#define S3_POSITION 1u            /* numbers of `position`: the failing position */
-#define S3_SLOTS 120u             /* slots of a frame, and elements of `answers`, `stuff` and `positions` of s3_read_frame */
-#define S3_SLOT_OCTETS 5610u      /* octets of a coded slot */
-#define S3_FRAME_OCTETS 673200u   /* octets of a coded frame: slot s begins at 5,610 * (s - 1) */
-#define S3_HEADER_OCTETS 22u      /* octets of a slot's header */
-#define S3_PACKET_OCTETS 188u     /* octets of a TS packet */
-#define S3_MOST_SOURCE 5071u      /* header and data octets of the largest slot, that of rate 11: no slot has more */
-#define S3_MOST_TABLE 510u        /* numbers of the longest published parity table, that of rate 10 */
-#define S3_PLACE 4u               /* numbers of `place`: group, modulation, rate, whether the slot carries data */
-#define S3_TMCC_OCTETS 1178u      /* octets of a frame's 9,422 TMCC bits and two zeros */
-#define S3_BLOCK_OCTETS 3960u     /* octets of a coded TMCC block */
-#define S3_BLOCK_LABELS 31680u    /* labels of a TMCC block */
-#define S3_POINT 2u               /* floats of `point`: I, Q */
-#define S3_ARRANGED_NEXT 1u       /* numbers of `next` of s3_arranged_step: the register */
-#define S3_TLV_NEXT 2u            /* numbers of `next` of s3_tlv_fill and s3_tlv_read */
-#define S3_SETTING_OCTETS 512u    /* octets of a setting's block on a card */
-#define S3_MOST_SETTINGS 64u      /* the most blocks of a card */
-#define S3_PLAN_OCTETS 24u        /* octets of a plan that s3_read_settings returns */
-#define S3_SETTINGS 5u            /* numbers of `settings`: groups, slot mask, slot start, TMCC mask, TMCC start */
-#define S3_REGISTERS 4u           /* numbers of `registers`: those of `settings` behind the groups */
+/* Sizes. */
+#define S3_GROUPS ((size_t)8)                /* the most groups of a plan */
+#define S3_SLOTS ((size_t)120)               /* slots of a frame, and elements of `answers`, `stuff` and `positions` of s3_read_frame */
+#define S3_SLOT_OCTETS ((size_t)5610)        /* octets of a coded slot */
+#define S3_FRAME_OCTETS ((size_t)673200)     /* octets of a coded frame: slot s begins at 5,610 * (s - 1) */
+#define S3_HEADER_OCTETS ((size_t)22)        /* octets of a slot's header */
+#define S3_PACKET_OCTETS ((size_t)188)       /* octets of a TS packet */
+#define S3_MOST_SOURCE ((size_t)5071)        /* header and data octets of the largest slot, that of rate 11: no slot has more */
+#define S3_MOST_TABLE ((size_t)510)          /* numbers of the longest published parity table, that of rate 10 */
+#define S3_LIST_OCTETS ((size_t)512)         /* octets of the area of s3_plan_list */
+#define S3_TMCC_OCTETS ((size_t)1178)        /* octets of a frame's 9,422 TMCC bits and two zeros */
+#define S3_TMCC_BLOCK_OCTETS ((size_t)3960)  /* octets of a coded TMCC block */
+#define S3_TMCC_BLOCK_LABELS ((size_t)31680) /* labels of a TMCC block */
+#define S3_SETTING_OCTETS ((size_t)512)      /* octets of a setting's block on a card */
+#define S3_MOST_SETTINGS ((size_t)64)        /* the most blocks of a card */
 
 /* What stands for no octet of a slot where the TLV calls report one or take one. */
 #define S3_NO_BEGIN 65535u
@@ -100,14 +101,7 @@ S3_RESULT static inline const char *s3_word(uint32_t number) {
  * T, the length of the published parity table, is 278, 333, 356, 402, 432, 461, 471, 465, 481, 510, 439: s3_table_entries.
  * Modulations 1 to 5 are pi/2-shift BPSK, QPSK, 8PSK, 16APSK, 32APSK: bits in a symbol.
  *
- * plan: three octets for each of 1 to 8 groups: modulation, rate and slots. Its rules are tested one after the other, each
- * over the whole plan: any other plan_length is refused 1; an unknown modulation or rate, or slots that are 0 or no multiple
- * of 5, 13; groups that do not fall strictly, higher modulation first, then higher rate, 14; slots of all groups that do not
- * add to 120, 15. Of a group's n slots the first n * modulation / 5 carry data; the others are dummies.
- *
  * mask, start: the settings of the 25-bit dispersal register; a TMCC block has 15 bits. Mask has the top bit.
- *
- * slot, register: the place of a slot call: the next slot from 1, and the dispersal register there. Both come from `next`.
  *
  * table: for each row of the rate's code a count from 1 to 16 and then that many different addresses. In a whole-frame call
  * the groups' tables follow each other in group order. A wrong table_length is refused 5.
@@ -115,101 +109,183 @@ S3_RESULT static inline const char *s3_word(uint32_t number) {
  * source: the 22 header octets of a slot, then its 187 * P data octets. In a whole-frame call the data slots lie end to end.
  */
 
+/* A plan: of the groups 0, 1, .. the first `count` are in use, and what stands behind them does not count. Its rules are
+ * tested one after the other, each over the whole plan: a count outside 1 to 8 is refused 1; an unknown modulation or rate, or
+ * slots that are 0 or no multiple of 5, 13; groups that do not fall strictly, higher modulation first, then higher rate, 14;
+ * slots of all groups that do not add to 120, 15. Of a group's n slots the first n * modulation / 5 carry data; the others are
+ * dummies. */
+typedef struct s3_plan {
+    uint16_t count;
+    uint16_t modulation[8];
+    uint16_t rate[8];
+    uint16_t slots[8];
+} s3_plan;
+
+/* The frame state: a plan, the settings of the register, the next slot from 1, and the register there. It comes from s3_open,
+ * and from each call to the next. */
+typedef struct s3_state {
+    uint16_t count;
+    uint16_t modulation[8];
+    uint16_t rate[8];
+    uint16_t slots[8];
+    uint32_t mask;
+    uint32_t start;
+    uint16_t slot;
+    uint32_t register_;
+} s3_state;
+
+/* A number, and the state after the call. */
+typedef struct s3_answer {
+    uint8_t number;
+    s3_state state;
+} s3_answer;
+
+/* Where a slot lies: its group from 0, the group's modulation and rate, and whether the slot carries data. */
+typedef struct s3_slot_place {
+    size_t group;
+    uint32_t modulation;
+    uint32_t rate;
+    bool carries;
+} s3_slot_place;
+
+typedef struct s3_placed {
+    uint8_t number;
+    s3_slot_place place;
+} s3_placed;
+
+/* A slot that was read: the state after it, its stuff bits or S3_NO_STUFF, its failing position or S3_NO_POSITION. */
+typedef struct s3_slot_read {
+    uint8_t number;
+    s3_state state;
+    uint8_t stuff;
+    uint16_t position;
+} s3_slot_read;
+
+/* A number, and with 8 the failing position, else S3_NO_POSITION. */
+typedef struct s3_word_answer {
+    uint8_t number;
+    uint16_t position;
+} s3_word_answer;
+
+/* A signal point: its in-phase coordinate and its quadrature coordinate. */
+typedef struct s3_point_answer {
+    uint8_t number;
+    float i;
+    float q;
+} s3_point_answer;
+
+/* The register of the signal point arrangement signal, one step on. */
+typedef struct s3_step_answer {
+    uint8_t number;
+    uint32_t register_;
+} s3_step_answer;
+
+/* How many octets of TLV packets are taken in all, and how many of a cut filler are owed. */
+typedef struct s3_fill_answer {
+    uint8_t number;
+    size_t taken;
+    size_t owed;
+} s3_fill_answer;
+
+/* How many octets of TLV packets were written, and where in the slots an unfinished last packet begins. */
+typedef struct s3_read_answer {
+    uint8_t number;
+    size_t written;
+    size_t unfinished;
+} s3_read_answer;
+
+/* Mask and start of a register. */
+typedef struct s3_register {
+    uint32_t mask;
+    uint32_t start;
+} s3_register;
+
+/* Those of the slots' register, of 25 bits, and of the TMCC blocks', of 15. */
+typedef struct s3_registers {
+    s3_register slots;
+    s3_register tmcc;
+} s3_registers;
+
+/* A setting that a card keeps. */
+typedef struct s3_settings_answer {
+    uint8_t number;
+    s3_plan plan;
+    s3_registers registers;
+} s3_settings_answer;
+
+/* A plan that a text says. */
+typedef struct s3_plan_read {
+    uint8_t number;
+    s3_plan plan;
+} s3_plan_read;
+
+/* The version of the library, to be compared with S3_VERSION. */
+S3_RESULT uint32_t s3_version(void);
+
 /* What to lend: these four answer a count, and 0 where the plan is refused or the rate is unknown. */
 
 /* Header and data octets of all data slots: the source of s3_code_frame and s3_read_frame. */
-S3_RESULT uint64_t s3_source_octets(const uint8_t *plan, size_t plan_length);
+S3_RESULT size_t s3_source_octets(s3_plan plan);
 
 /* Numbers of the groups' published parity tables: those of s3_published_tables. */
-S3_RESULT uint64_t s3_tables_entries(const uint8_t *plan, size_t plan_length);
+S3_RESULT size_t s3_tables_entries(s3_plan plan);
 
 /* T, the numbers of the published parity table of a rate. */
-S3_RESULT uint32_t s3_table_entries(uint32_t rate);
+S3_RESULT size_t s3_table_entries(uint32_t rate);
 
 /* P, the packets of a slot of a rate. */
-S3_RESULT uint32_t s3_packets_of(uint32_t rate);
+S3_RESULT size_t s3_packets_of(uint32_t rate);
+
+/* The plan that a text says: for each group a line of modulation, rate and slots, 1 to 3 digits each without a leading zero,
+ * one space between them and a line feed behind them; 128 octets at most.
+ * Numbers: 1 (also of the text), 13, 14, 15. The plan of a refusal is all zeros. */
+S3_RESULT s3_plan_read s3_plan_of_text(const uint8_t *text, size_t text_length);
+
+/* The list of the plan that a text says: a line of column names, a line for each run of data slots and of dummies, and the
+ * sums; or `refused N` alone, N the number of s3_plan_of_text. Answers how many octets of the list are written.
+ *   list  512 octets: the list, and what was found behind it */
+S3_RESULT size_t s3_plan_list(const uint8_t *text, size_t text_length, uint8_t list[512]);
 
 /* Where a slot lies.
- *   place  4 numbers: its group from 0, modulation, rate, and 1 where it carries data; zeros with a refusal
- * Numbers: 1 (also slot 0), 13, 14, 15, 3, 4. Where place has another length it is left as found. */
-S3_RESULT uint32_t s3_place(const uint8_t *plan, size_t plan_length, uint32_t slot, uint32_t *place,
-                            size_t place_length);
+ * Numbers: 1 (also slot 0), 13, 14, 15, 3. The place of a refusal is all zeros. */
+S3_RESULT s3_placed s3_place(s3_plan plan, uint32_t slot);
 
-/* Opens a frame.
- *   next  2 numbers: slot 1 and the register at its start; two zeros with a refusal
- * Numbers: 1, 13, 14, 15, 6, 4. Where next has another length it is left as found. */
-S3_RESULT uint32_t s3_open(const uint8_t *plan, size_t plan_length, uint32_t mask, uint32_t start, uint32_t *next,
-                           size_t next_length);
+/* Opens a frame: the state at slot 1, with the register at its start.
+ * Numbers: 1, 13, 14, 15, 6. The state of a refusal is all zeros. */
+S3_RESULT s3_answer s3_open(s3_plan plan, uint32_t mask, uint32_t start);
 
-/* Passes a dummy.
- *   next  2 numbers: the next slot, and the register as handed in
- * Numbers: 1 (also slot 0), 13, 14, 15, 6, 3, 2 (at a data slot), 4. */
-S3_RESULT uint32_t s3_pass(const uint8_t *plan, size_t plan_length, uint32_t mask, uint32_t start, uint32_t slot,
-                           uint32_t register_, uint32_t *next, size_t next_length);
+/* Passes a dummy: the state one slot on, with the register as it was.
+ * Numbers: 1 (also slot 0), 13, 14, 15, 6, 3, 2 (at a data slot). The state of a refusal is the one handed in. */
+S3_RESULT s3_answer s3_pass(s3_state state);
 
-/* Codes one data slot.
+/* Codes one data slot: the state one slot on, with the register there.
  *   source  22 + 187 * P octets
  *   coded   5,610 octets: the slot
- *   next    2 numbers: the next slot, and the register there
- * Numbers: 1 (also slot 0), 13, 14, 15, 6, 3, 2 (at a dummy), 4, 5. */
-S3_RESULT uint32_t s3_code_slot(const uint8_t *plan, size_t plan_length, uint32_t mask, uint32_t start, uint32_t slot,
-                                uint32_t register_, const uint16_t *table, size_t table_length, const uint8_t *source,
-                                size_t source_length, uint8_t *coded, size_t coded_length, uint32_t *next,
-                                size_t next_length);
+ * Numbers: 1 (also slot 0), 13, 14, 15, 6, 3, 2 (at a dummy), 4, 5. The state of a refusal is the one handed in. */
+S3_RESULT s3_answer s3_code_slot(s3_state state, const uint16_t *table, size_t table_length, const uint8_t *source,
+                                 size_t source_length, uint8_t *coded, size_t coded_length);
 
 /* Reads one data slot; its stuff bits may be any. Coding what was read gives the same slot only where their number is
  * S3_STUFF_ONES; for other numbers it gives the slot with ones there and its parity made anew.
  *   coded   5,610 octets
  *   source  22 + 187 * P octets: header and data
- *   report  2 numbers: the stuff bits, 0 to 63, or S3_NO_STUFF with a refusal; with 8 the failing position, else S3_NO_POSITION
- *   next    2 numbers: the next slot, and the register there; written with 0, and with 8 and 9 too
- * Numbers: 1 (also slot 0), 13, 14, 15, 6, 3, 2 (at a dummy), 4, 5, 8, 9. Where report has another length it is left as
- * found. */
-S3_RESULT uint32_t s3_read_slot(const uint8_t *plan, size_t plan_length, uint32_t mask, uint32_t start, uint32_t slot,
-                                uint32_t register_, const uint16_t *table, size_t table_length, const uint8_t *coded,
-                                size_t coded_length, uint8_t *source, size_t source_length, uint16_t *report,
-                                size_t report_length, uint32_t *next, size_t next_length);
-
-/* Codes one data slot from its packets.
- *   header   22 octets
- *   packets  188 * P octets, each packet beginning 0x47
- *   coded    5,610 octets: the slot
- *   next     2 numbers: the next slot, and the register there
- * Numbers: 1 (also slot 0), 13, 14, 15, 6, 3, 2 (at a dummy), 4 (packets), 7, 4 (header, coded, next), 5. */
-S3_RESULT uint32_t s3_code_packets(const uint8_t *plan, size_t plan_length, uint32_t mask, uint32_t start,
-                                   uint32_t slot, uint32_t register_, const uint16_t *table, size_t table_length,
-                                   const uint8_t *header, size_t header_length, const uint8_t *packets,
-                                   size_t packets_length, uint8_t *coded, size_t coded_length, uint32_t *next,
-                                   size_t next_length);
-
-/* Reads one data slot into its packets; its stuff bits may be any.
- *   coded    5,610 octets
- *   header   22 octets
- *   packets  188 * P octets: the packets, 0x47 put back
- *   report   2 numbers: those of s3_read_slot
- *   next     2 numbers: the next slot, and the register there; written with 0, and with 8 and 9 too
- * Numbers: 1 (also slot 0), 13, 14, 15, 6, 3, 2 (at a dummy), 4, 5, 8, 9. Where report has another length it is left as
- * found. */
-S3_RESULT uint32_t s3_read_packets(const uint8_t *plan, size_t plan_length, uint32_t mask, uint32_t start,
-                                   uint32_t slot, uint32_t register_, const uint16_t *table, size_t table_length,
-                                   const uint8_t *coded, size_t coded_length, uint8_t *header, size_t header_length,
-                                   uint8_t *packets, size_t packets_length, uint16_t *report, size_t report_length,
-                                   uint32_t *next, size_t next_length);
+ * Numbers: 1 (also slot 0), 13, 14, 15, 6, 3, 2 (at a dummy), 4, 5, 8, 9. With 8 and 9 the state moves on as with 0; that of
+ * another refusal is the one handed in. */
+S3_RESULT s3_slot_read s3_read_slot(s3_state state, const uint16_t *table, size_t table_length, const uint8_t *coded,
+                                    size_t coded_length, uint8_t *source, size_t source_length);
 
 /* Checks the LDPC parity of a slot, whatever its dispersal.
- *   coded     5,610 octets
- *   position  1 number: with 8 the failing position, else S3_NO_POSITION
- * Numbers: 1, 4, 5, 8. Where position has another length it is left as found. */
-S3_RESULT uint32_t s3_check_parity(uint32_t rate, const uint16_t *table, size_t table_length, const uint8_t *coded,
-                                   size_t coded_length, uint16_t *position, size_t position_length);
+ *   coded  5,610 octets
+ * Numbers: 1, 4, 5, 8. */
+S3_RESULT s3_word_answer s3_check_parity(uint32_t rate, const uint16_t *table, size_t table_length, const uint8_t *coded,
+                                         size_t coded_length);
 
 /* Codes a whole frame.
  *   source  the octets of all data slots, end to end
  *   frame   673,200 octets: each data slot in its part; the dummies' parts are left as found
  * Numbers: 1, 13, 14, 15, 6, 4, 5. */
-S3_RESULT uint32_t s3_code_frame(const uint8_t *plan, size_t plan_length, uint32_t mask, uint32_t start,
-                                 const uint16_t *tables, size_t tables_length, const uint8_t *source,
-                                 size_t source_length, uint8_t *frame, size_t frame_length);
+S3_RESULT uint8_t s3_code_frame(s3_plan plan, uint32_t mask, uint32_t start, const uint16_t *tables, size_t tables_length,
+                                const uint8_t *source, size_t source_length, uint8_t *frame, size_t frame_length);
 
 /* Reads a whole frame; the stuff bits of its slots may be any.
  *   frame      673,200 octets
@@ -218,53 +294,50 @@ S3_RESULT uint32_t s3_code_frame(const uint8_t *plan, size_t plan_length, uint32
  *   stuff      120 octets, one for each slot: the stuff bits, 0 to 63, or S3_NO_STUFF where the slot's answer isn't 0
  *   positions  120 numbers, one for each slot: the failing position, or S3_NO_POSITION where the slot's answer isn't 8
  * Numbers: 1, 13, 14, 15, 6, 4, 5. */
-S3_RESULT uint32_t s3_read_frame(const uint8_t *plan, size_t plan_length, uint32_t mask, uint32_t start,
-                                 const uint16_t *tables, size_t tables_length, const uint8_t *frame,
-                                 size_t frame_length, uint8_t *source, size_t source_length, uint8_t *answers,
-                                 size_t answers_length, uint8_t *stuff, size_t stuff_length, uint16_t *positions,
-                                 size_t positions_length);
+S3_RESULT uint8_t s3_read_frame(s3_plan plan, uint32_t mask, uint32_t start, const uint16_t *tables, size_t tables_length,
+                                const uint8_t *frame, size_t frame_length, uint8_t *source, size_t source_length,
+                                uint8_t *answers, size_t answers_length, uint8_t *stuff, size_t stuff_length,
+                                uint16_t *positions, size_t positions_length);
 
 /* Codes a TMCC block, under a parity table of rate 3.
  *   source  1,178 octets: 9,422 bits, and two zeros
  *   block   3,960 octets
  * Numbers: 6, 4, 5, 11. */
-S3_RESULT uint32_t s3_code_tmcc(uint32_t mask, uint32_t start, const uint16_t *table, size_t table_length,
-                                const uint8_t *source, size_t source_length, uint8_t *block, size_t block_length);
+S3_RESULT uint8_t s3_code_tmcc(uint32_t mask, uint32_t start, const uint16_t *table, size_t table_length,
+                               const uint8_t *source, size_t source_length, uint8_t *block, size_t block_length);
 
 /* Reads a TMCC block, under a parity table of rate 3.
- *   block     3,960 octets
- *   source    1,178 octets: 9,422 bits, and two zeros
- *   position  1 number: with 8 the failing position, else S3_NO_POSITION
- * Numbers: 6, 4, 5, 8, 9. Where position has another length it is left as found. */
-S3_RESULT uint32_t s3_read_tmcc(uint32_t mask, uint32_t start, const uint16_t *table, size_t table_length,
-                                const uint8_t *block, size_t block_length, uint8_t *source, size_t source_length,
-                                uint16_t *position, size_t position_length);
+ *   block   3,960 octets
+ *   source  1,178 octets: 9,422 bits, and two zeros
+ * Numbers: 6, 4, 5, 8, 9. */
+S3_RESULT s3_word_answer s3_read_tmcc(uint32_t mask, uint32_t start, const uint16_t *table, size_t table_length,
+                                      const uint8_t *block, size_t block_length, uint8_t *source, size_t source_length);
 
 /* The labels of a slot, one octet each.
  *   coded   5,610 octets
  *   labels  44,880 / modulation octets
  * Numbers: 1, 4. */
-S3_RESULT uint32_t s3_labels(uint32_t modulation, uint32_t rate, const uint8_t *coded, size_t coded_length,
-                             uint8_t *labels, size_t labels_length);
+S3_RESULT uint8_t s3_labels(uint32_t modulation, uint32_t rate, const uint8_t *coded, size_t coded_length,
+                            uint8_t *labels, size_t labels_length);
 
 /* The slot of labels.
  *   labels  44,880 / modulation octets, each below 2^modulation
  *   coded   5,610 octets
  * Numbers: 1, 4, 12. */
-S3_RESULT uint32_t s3_slot_of_labels(uint32_t modulation, uint32_t rate, const uint8_t *labels, size_t labels_length,
-                                     uint8_t *coded, size_t coded_length);
+S3_RESULT uint8_t s3_slot_of_labels(uint32_t modulation, uint32_t rate, const uint8_t *labels, size_t labels_length,
+                                    uint8_t *coded, size_t coded_length);
 
 /* The labels of a TMCC block, one octet each.
  *   block   3,960 octets
  *   labels  31,680 octets
  * Numbers: 4. */
-S3_RESULT uint32_t s3_tmcc_labels(const uint8_t *block, size_t block_length, uint8_t *labels, size_t labels_length);
+S3_RESULT uint8_t s3_tmcc_labels(const uint8_t *block, size_t block_length, uint8_t *labels, size_t labels_length);
 
 /* The TMCC block of labels.
  *   labels  31,680 octets, each 0 or 1
  *   block   3,960 octets
  * Numbers: 4, 12. */
-S3_RESULT uint32_t s3_tmcc_of_labels(const uint8_t *labels, size_t labels_length, uint8_t *block, size_t block_length);
+S3_RESULT uint8_t s3_tmcc_of_labels(const uint8_t *labels, size_t labels_length, uint8_t *block, size_t block_length);
 
 /* A signal point has an in-phase coordinate I and a quadrature coordinate Q. The caller knows them: in_phase and quadrature
  * lend I and Q of each label of a modulation, label 0 first, as 2^modulation floats each. A float is one of IEEE 754, of 32
@@ -280,51 +353,47 @@ S3_RESULT uint32_t s3_tmcc_of_labels(const uint8_t *labels, size_t labels_length
 /* The point of a label.
  *   in_phase    2^modulation floats
  *   quadrature  2^modulation floats
- *   point       2 floats: I and Q
- * Numbers: 1, 4 (with BPSK also symbol 0), 12, 18. */
-S3_RESULT uint32_t s3_point(uint32_t modulation, uint32_t label, uint32_t symbol, const float *in_phase,
-                            size_t in_phase_length, const float *quadrature, size_t quadrature_length, float *point,
-                            size_t point_length);
+ * Numbers: 1, 4 (with BPSK also symbol 0), 12, 18. The coordinates of a refusal are zeros. */
+S3_RESULT s3_point_answer s3_point(uint32_t modulation, uint32_t label, uint32_t symbol, const float *in_phase,
+                                   size_t in_phase_length, const float *quadrature, size_t quadrature_length);
 
 /* The point of a label in the signal point arrangement signal: that of s3_point, turned by 180 degrees, which makes (I, Q)
  * into (-I, -Q), where the register's bit of weight 2^14 is 1.
  *   in_phase    2^modulation floats
  *   quadrature  2^modulation floats
- *   point       2 floats: I and Q
- * Numbers: 1, 6, 4 (with BPSK also symbol 0), 12, 18. */
-S3_RESULT uint32_t s3_arranged_point(uint32_t modulation, uint32_t label, uint32_t symbol, const float *in_phase,
-                                     size_t in_phase_length, const float *quadrature, size_t quadrature_length,
-                                     uint32_t mask, uint32_t register_, float *point, size_t point_length);
+ * Numbers: 1, 6, 4 (with BPSK also symbol 0), 12, 18. The coordinates of a refusal are zeros. */
+S3_RESULT s3_point_answer s3_arranged_point(uint32_t modulation, uint32_t label, uint32_t symbol, const float *in_phase,
+                                            size_t in_phase_length, const float *quadrature, size_t quadrature_length,
+                                            uint32_t mask, uint32_t register_);
 
 /* Steps the register of the signal point arrangement signal.
- *   next  1 number: the register one step on; 0 with a refusal
- * Numbers: 6, 4. Where next has another length it is left as found. */
-S3_RESULT uint32_t s3_arranged_step(uint32_t mask, uint32_t register_, uint32_t *next, size_t next_length);
+ * Numbers: 6. The register of a refusal is 0. */
+S3_RESULT s3_step_answer s3_arranged_step(uint32_t mask, uint32_t register_);
 
 /* The points of labels, each that of s3_point. symbol is that of the first label; the others count on from it, past 2^32 too.
  *   labels      any number of octets, each below 2^modulation
  *   in_phase    2^modulation floats
  *   quadrature  2^modulation floats
- *   i_out       as many floats as labels: I of each
- *   q_out       as many floats as labels: Q of each
+ *   i           as many floats as labels: I of each
+ *   q           as many floats as labels: Q of each
  * Numbers: 1, 4 (with BPSK also symbol 0), 12, 18, each tested of all labels before the next. */
-S3_RESULT uint32_t s3_points(uint32_t modulation, uint32_t symbol, const uint8_t *labels, size_t labels_length,
-                             const float *in_phase, size_t in_phase_length, const float *quadrature,
-                             size_t quadrature_length, float *i_out, size_t i_length, float *q_out, size_t q_length);
+S3_RESULT uint8_t s3_points(uint32_t modulation, uint32_t symbol, const uint8_t *labels, size_t labels_length,
+                            const float *in_phase, size_t in_phase_length, const float *quadrature,
+                            size_t quadrature_length, float *i, size_t i_length, float *q, size_t q_length);
 
 /* Packs the TS packets of one slot.
  *   packets  188 * P octets, each packet beginning 0x47
  *   octets   187 * P octets: the packets without it
  * Numbers: 1, 4, 7. */
-S3_RESULT uint32_t s3_pack(uint32_t rate, const uint8_t *packets, size_t packets_length, uint8_t *octets,
-                           size_t octets_length);
+S3_RESULT uint8_t s3_pack(uint32_t rate, const uint8_t *packets, size_t packets_length, uint8_t *octets,
+                          size_t octets_length);
 
 /* Unpacks the data octets of one slot.
  *   octets   187 * P octets
  *   packets  188 * P octets: the packets, 0x47 put back
  * Numbers: 1, 4. */
-S3_RESULT uint32_t s3_unpack(uint32_t rate, const uint8_t *octets, size_t octets_length, uint8_t *packets,
-                             size_t packets_length);
+S3_RESULT uint8_t s3_unpack(uint32_t rate, const uint8_t *octets, size_t octets_length, uint8_t *packets,
+                            size_t packets_length);
 
 /* A TLV packet is 0x7F, a type octet (0x01, 0x02, 0x03, 0xFE or 0xFF), the length of its body in two octets, the high one
  * first, and the body. One of type 0xFF is a null packet: its body is all 0xFF. One stream of packets fills all data slots of
@@ -332,18 +401,15 @@ S3_RESULT uint32_t s3_unpack(uint32_t rate, const uint8_t *octets, size_t octets
  * lent as their data octets alone, end to end. */
 
 /* Fills slots: with the octets owed, the packets from `taken` on, and fillers, the last of which the slots' end may cut.
- *   packets  whole packets end to end, those taken before included
+ *   packets  whole packets end to end, those taken before included; none at all, too
  *   taken    how many of their octets were taken before: 0 at first, at most packets_length
  *   owed     how many octets of a cut filler come first: 0 to 3, and 0 unless taken is 0 or packets_length
  *   slots    187 * P octets for each of n slots, at least one
  *   begins   n numbers: the octet of each slot where the first packet or filler begins, or S3_NO_BEGIN
- *   next     2 numbers: how many octets of the packets are taken in all, and how many of a cut filler are owed; two zeros
- *            with a refusal
- * Numbers: 1, 4 (also taken or owed outside these bounds), 16 (in any of the packets). Where next has another length it is
- * left as found. */
-S3_RESULT uint32_t s3_tlv_fill(uint32_t rate, const uint8_t *packets, size_t packets_length, uint64_t taken,
-                               uint32_t owed, uint8_t *slots, size_t slots_length, uint16_t *begins,
-                               size_t begins_length, uint64_t *next, size_t next_length);
+ * Numbers: 1, 4 (also taken or owed outside these bounds), 16 (in any of the packets). */
+S3_RESULT s3_fill_answer s3_tlv_fill(uint32_t rate, const uint8_t *packets, size_t packets_length, size_t taken,
+                                     size_t owed, uint8_t *slots, size_t slots_length, uint16_t *begins,
+                                     size_t begins_length);
 
 /* Reads the TLV packets of slots, without empty null packets. A packet that meets a lost slot is dropped, and reading goes on
  * at the next beginning that a slot behind it reports. A head or null body that is whole and wrong counts as losing the rest
@@ -353,13 +419,11 @@ S3_RESULT uint32_t s3_tlv_fill(uint32_t rate, const uint8_t *packets, size_t pac
  *   lost     n octets: 1 for a lost slot, else 0
  *   first    the octet of the first slot to read first, below 187 * P, or S3_NO_BEGIN for the first reported beginning
  *   packets  as many octets as slots: the whole packets end to end; what is behind them is left as found
- *   next     2 numbers: how many octets were written, and where in slots an unfinished last packet begins, or slots_length;
- *            two zeros with a refusal
- * Numbers: 1, 4 (also a report, mark or first octet outside these bounds). Where next has another length it is left as
- * found. */
-S3_RESULT uint32_t s3_tlv_read(uint32_t rate, const uint8_t *slots, size_t slots_length, const uint16_t *begins,
-                               size_t begins_length, const uint8_t *lost, size_t lost_length, uint32_t first,
-                               uint8_t *packets, size_t packets_length, uint64_t *next, size_t next_length);
+ * Answers where in slots an unfinished last packet begins, or slots_length.
+ * Numbers: 1, 4 (also a report, mark or first octet outside these bounds). */
+S3_RESULT s3_read_answer s3_tlv_read(uint32_t rate, const uint8_t *slots, size_t slots_length, const uint16_t *begins,
+                                     size_t begins_length, const uint8_t *lost, size_t lost_length, uint32_t first,
+                                     uint8_t *packets, size_t packets_length);
 
 /* A card holds 0 to 64 settings: blocks of 512 octets, end to end, numbered from 0. Numbers of several octets have the high
  * octet first.
@@ -376,33 +440,27 @@ S3_RESULT uint32_t s3_tlv_read(uint32_t rate, const uint8_t *slots, size_t slots
  *     510       2  sum of the 510 octets before it, modulo 65,536 */
 
 /* Reads a setting.
- *   card      512 octets for each of 0 to 64 blocks
- *   number    that of the block, from 0
- *   plan      24 octets: the groups, three octets each, and zeros behind them; zeros with a refusal
- *   settings  5 numbers: groups, slot mask, slot start, TMCC mask, TMCC start; zeros with a refusal
- * Numbers: 4, 17, 1, 13, 14, 15 (the block's plan), 6 (its masks and starts). Where plan or settings has another length, that
- * one is left as found. The first 3 * groups octets of plan are the plan as other calls take it. */
-S3_RESULT uint32_t s3_read_settings(const uint8_t *card, size_t card_length, uint32_t number, uint8_t *plan,
-                                    size_t plan_length, uint32_t *settings, size_t settings_length);
+ *   card    512 octets for each of 0 to 64 blocks
+ *   number  that of the block, from 0
+ * Numbers: 4, 17, 1, 13, 14, 15 (the block's plan), 6 (its masks and starts). Plan and registers of a refusal are all zeros. */
+S3_RESULT s3_settings_answer s3_read_settings(const uint8_t *card, size_t card_length, size_t number);
 
 /* Replaces a setting, whatever its block holds. The other blocks keep their octets.
- *   card       512 octets for each of 0 to 64 blocks
- *   number     that of the block, from 0
- *   plan       three octets for each of its groups, as in other calls
- *   registers  4 numbers: slot mask, slot start, TMCC mask, TMCC start
- * Numbers: 4 (card, registers), 17 (the card has no block of this number), 1, 13, 14, 15, 6. */
-S3_RESULT uint32_t s3_replace_settings(uint8_t *card, size_t card_length, uint32_t number, const uint8_t *plan,
-                                       size_t plan_length, const uint32_t *registers, size_t registers_length);
+ *   card    512 octets for each of 0 to 64 blocks
+ *   number  that of the block, from 0
+ * Numbers: 4, 17 (the card has no block of this number), 1, 13, 14, 15, 6. */
+S3_RESULT uint8_t s3_replace_settings(uint8_t *card, size_t card_length, size_t number, s3_plan plan,
+                                      s3_registers registers);
 
 /* Copies the published parity table of a rate.
  *   table  T numbers
  * Numbers: 1, 4. */
-S3_RESULT uint32_t s3_published_table(uint32_t rate, uint16_t *table, size_t table_length);
+S3_RESULT uint8_t s3_published_table(uint32_t rate, uint16_t *table, size_t table_length);
 
 /* Copies the published parity tables of a plan's groups, in group order, as the whole-frame calls take them.
  *   tables  as many numbers as s3_tables_entries says
  * Numbers: 1, 13, 14, 15, 4. */
-S3_RESULT uint32_t s3_published_tables(const uint8_t *plan, size_t plan_length, uint16_t *tables, size_t tables_length);
+S3_RESULT uint8_t s3_published_tables(s3_plan plan, uint16_t *tables, size_t tables_length);
 
 #ifdef __cplusplus
 }
