@@ -26,6 +26,7 @@ pub struct Shape {
 pub const NO_POSITION: u16 = 65535;
 
 // The refusal of a received word, or 0, and with that of its parity the lowest failing parity position.
+#[repr(C)]
 pub struct WordAnswer {
     pub number: u8,
     pub position: u16,

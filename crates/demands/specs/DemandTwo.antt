@@ -1,24 +1,27 @@
 -- Demand 2, proved.
 use mathlib.Core.Path.{_≡_, refl, sym, ap, _∙_}
 use mathlib.Core.Bool.{Bool, true, false}
-use mathlib.Core.List.{List}
+use mathlib.Core.List.{List, _++_}
 use mathlib.Core.Logic.{_↔_, inl}
 use Prim.Native.Nat.{ℕ, _+_, _-_, _*_, _<_}
 use native.Mathlib.Omega.{arith}
 use borrow.Author.Tests.{eq-eqb}
-use lib.ListN.{length, getD}
+use lib.ListN.{length, getD, take, drop, take-append-drop}
+use lib.Seq.{take-at, drop-at}
 use Rattle.lists.specs.Choice.{pick}
 use Rattle.lists.specs.ChoiceLaws.{then-zero, then-both, clash}
 use Rattle.lists.specs.CountLaws.{joined-same}
 use Rattle.lists.specs.Pieces.{pieces-all}
 use Rattle.lists.specs.Runs.{Octets}
-use Rattle.lists.specs.RunLaws.{below-part}
+use Rattle.lists.specs.RunLaws.{below-append, below-part}
 use Rattle.refusal.specs.Numbers.{DUMMY}
 use Rattle.plan.specs.declared.Plan.{Plan}
 use Rattle.plan.specs.declared.FrameState.{FrameState}
 use Rattle.plan.specs.Sizes.{slotOctets, frameOctets}
 use Rattle.plan.specs.Places.{groupAt, carries}
-use Rattle.packets.specs.PacketLaws.{pack-unpack, unpack-pack}
+use Rattle.plan.specs.Rates.{packetsOf}
+use Rattle.packets.specs.Packets.{packed}
+use Rattle.packets.specs.PacketLaws.{packed-octets, pack-unpack, unpack-pack}
 use Rattle.symbols.specs.CallLaws.{slot-labels-slot, labels-slot-labels, block-labels-block, labels-block-labels}
 use Rattle.slot.specs.Slots.{slotShape, slotOf}
 use Rattle.slot.specs.SlotLaws.{Source}
@@ -26,9 +29,8 @@ use Rattle.codeword.specs.Reading.{wordNumber, Good}
 use Rattle.codeword.specs.ReadingLaws.{Received, word-good}
 use Rattle.slot.specs.Reading.{receivedNumber, stuffIn, noStuff, stuffOnes, sourceOf}
 use Rattle.slot.specs.ReadingLaws.{received-good}
-use Rattle.slot.specs.Calls.{rowsAt, CodedAgain}
+use Rattle.slot.specs.Calls.{rowsAt, codeArea, readArea, CodedAgain}
 use Rattle.slot.specs.RoundTrips as slots
-use Rattle.stream.specs.Back as packets
 use Rattle.tmcc.specs.Blocks.{blockShape}
 use Rattle.tmcc.specs.BlockLaws.{fits as block-fits}
 use Rattle.tmcc.specs.Calls.{lentNumber as blockLentNumber, readNumber}
@@ -42,7 +44,7 @@ use Rattle.frame.specs.FrameLaws.{at, sourceFrom-none, sourceFrom-more, data-lo
 use Rattle.frame.specs.CallLaws.{Lent, frame-lent, frame-yes, read-lent, read-yes}
 use Rattle.frame.specs.SlotBySlot.{coded-to, read-to, taken, code-answer, code-area, read-answer, read-area, pass-answer}
 use Rattle.lookup.specs.LookupLaws.{tables-accepted}
-use Rattle.demands.specs.Statements.{SlotCodedThenRead, SlotReadThenCoded, PacketsCodedThenRead, PacketsReadThenCoded, PublishedTablesTaken, SlotAccepted, FrameSlotAccepted, BlockAccepted, SlotMovesOn, PackedThenUnpacked, UnpackedThenPacked, FrameCodedThenRead, FrameReadThenCoded, FrameCodedBySlots, FrameReadBySlots, BlockCodedThenRead, BlockReadThenCoded, SlotLabelsBack, LabelsSlotBack, BlockLabelsBack, LabelsBlockBack}
+use Rattle.demands.specs.Statements.{SlotCodedThenRead, SlotReadThenCoded, headerOctets, PacketsCodedThenRead, PacketsReadThenPacked, PublishedTablesTaken, SlotAccepted, FrameSlotAccepted, BlockAccepted, SlotMovesOn, PackedThenUnpacked, UnpackedThenPacked, FrameCodedThenRead, FrameReadThenCoded, FrameCodedBySlots, FrameReadBySlots, BlockCodedThenRead, BlockReadThenCoded, SlotLabelsBack, LabelsSlotBack, BlockLabelsBack, LabelsBlockBack}
 
 pub slot-coded-then-read : SlotCodedThenRead
 slot-coded-then-read = slots.code-then-read
@@ -51,10 +53,18 @@ pub slot-read-then-coded : SlotReadThenCoded
 slot-read-then-coded = slots.read-then-code
 
 pub packets-coded-then-read : PacketsCodedThenRead
-packets-coded-then-read = packets.packets-back
+packets-coded-then-read s rate room t header packets coded out oh op lh packs lo h =
+    let octets = packed (packetsOf rate) packets in
+    let source = header ++ octets in
+    let read : readArea s t (codeArea s t source coded) out ≡ source =
+    slots.code-then-read s t source coded out (below-append 255 header octets oh (packed-octets (packetsOf rate) packets op)) lo h .octets-are in
+    let behind = ap (drop headerOctets) read ∙ drop-at header octets headerOctets lh in
+    record { header-is = ap (take headerOctets) read ∙ take-at header octets headerOctets lh; packets-are = rw behind (pack-unpack rate packets room packs) }
 
-pub packets-read-then-coded : PacketsReadThenCoded
-packets-read-then-coded = packets.slot-back
+pub packets-read-then-packed : PacketsReadThenPacked
+packets-read-then-packed rate room source h =
+    ap (λ (octets : List ℕ). take headerOctets source ++ octets) (unpack-pack rate (drop headerOctets source) room h .same)
+    ∙ take-append-drop headerOctets source
 
 pub published-tables-taken : PublishedTablesTaken
 published-tables-taken = tables-accepted

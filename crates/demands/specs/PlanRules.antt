@@ -21,12 +21,10 @@ use Rattle.run_list.specs.Listing.{refusedText, answerText}
 use Rattle.published.specs.Published.{copyNumber}
 use Rattle.packets.specs.Packets.{sizeNumber, packNumber, unpackNumber}
 use Rattle.symbols.specs.Labels.{slotNumber as labelsNumber, slotOfLabelsNumber}
-use Rattle.slot.specs.Calls.{dataNumber, slotNumber, codeAnswer, readNumber, readAnswer, rateNumber, formNumber, checkNumber}
-use Rattle.stream.specs.SlotPackets.{laidNumber, roomNumber, codePacketsAnswer, readPacketsAnswer}
+use Rattle.slot.specs.Calls.{dataNumber, slotNumber, codeAnswer, readNumber, readAnswer, formNumber, checkNumber}
 use Rattle.frame.specs.Frames.{wholeNumber, frameNumber, readFrameNumber}
 use Rattle.lookup.specs.Lookups.{tablesNumber, placeNumber, placed}
 use Rattle.plan_octets.specs.Groups.{column, ofOctets}
-use Rattle.c_boundary.specs.Plans.{lengthOk, planOf}
 use Rattle.demands.specs.Requests.{PlanAccepted, PlanRefused, StateAnswers, RefusedPlanAnswered, RefusedStateAnswered, SlotZeroAnswered, RefusedTextPrinted, UnknownRefused, WorkedPlans}
 
 pub plan-accepted : PlanAccepted
@@ -62,18 +60,12 @@ module _ (s : FrameState) (n : ℕ) (e : soundNumber s ≡ n) (h : n ≡ 0 → �
   at-slot t source coded = onward (dataNumber s) _ _ at-data h
 
   state-answers : StateAnswers s n
-  unfolding passed passNumber codeAnswer readAnswer readNumber codePacketsAnswer readPacketsAnswer laidNumber roomNumber
+  unfolding passed passNumber codeAnswer readAnswer readNumber
   state-answers =
       record {
         pass = onward (stateNumber s) _ _ at-state h;
         code = at-slot;
         read = λ t coded source. onward (slotNumber s t source coded) _ _ (at-slot t source coded) h;
-        code-packets = λ t header packets coded.
-            let l : laidNumber s header packets ≡ n = onward (dataNumber s) _ _ at-data h in
-            rw (ne-eqb (laidNumber s header packets) 0 (λ z. h (sym l ∙ z))) l;
-        read-packets = λ t coded header packets.
-            let l : roomNumber s header packets ≡ n = onward (dataNumber s) _ _ at-data h in
-            rw (ne-eqb (roomNumber s header packets) 0 (λ z. h (sym l ∙ z))) l;
       }
 
 pub refused-state-answered : RefusedStateAnswered
@@ -106,7 +98,7 @@ refused-text-printed t =
     }
 
 pub unknown-refused : UnknownRefused
-unfolding copyNumber packNumber unpackNumber sizeNumber checkNumber formNumber rateNumber labelsNumber slotOfLabelsNumber
+unfolding copyNumber packNumber unpackNumber sizeNumber checkNumber formNumber labelsNumber slotOfLabelsNumber
 unknown-refused m rate =
     record {
       table = λ h area. rw h;
@@ -118,7 +110,7 @@ unknown-refused m rate =
     }
 
 pub worked-plans : WorkedPlans
-unfolding planNumber groupsOk valuesOk fallsAfter slotsBefore sum every joined planOf lengthOk ofOctets column
+unfolding planNumber groupsOk valuesOk fallsAfter slotsBefore sum every joined ofOctets column
 worked-plans =
     record {
       alone = refl;

@@ -17,7 +17,8 @@ use Rattle.points.specs.declared.Point.{Point}
 use Rattle.points.specs.declared.PointAnswer.{PointAnswer}
 use Rattle.points.specs.declared.PointAnswer.the-variants.{At, Refused}
 use Rattle.points.specs.Points.{quarterTurn, halfTurn, lentPoint, bpsk, pointOf, arrangedWidth, arrangedOf, inPhaseOf, quadratureOf, usedOk}
-use Rattle.points.specs.Answers.{Answers}
+use Rattle.points.specs.declared.PointValues.{PointValues}
+use Rattle.points.specs.Answers.{noCoordinate, asValues, pointValues, Answers}
 use Rattle.points.specs.Numbers.{lentOk, roomOk, pointNumber, arrangedNumber, pointsNumber, stepAnswer}
 
 -- "The answer is a point with both coordinates, or the refusal": a contract with number n and point p leaves one answer
@@ -27,6 +28,18 @@ pub record PointOrRefusal (n : ℕ) (p : Point) (r : PointAnswer) : Type 0 where
 
 abbrev pub OneAnswer : Type 0
 OneAnswer = (n : ℕ) (p : Point) (r : PointAnswer) → Answers n p r → PointOrRefusal n p r
+
+-- the same for C, where number and coordinates stand side by side: those of the point where the number is 0; and "Every other
+-- number returned with a refusal is 0" (document 01), so that both are +0 where it is not
+pub record SideBySide (n : ℕ) (p : Point) (v : PointValues) : Type 0 where
+  pub number-is : v .number ≡ n
+  pub accepted : n ≡ 0 → (v .i ≡ p .i) × (v .q ≡ p .q)
+  pub refused : (n ≡ 0 → ⊥) → (v .i ≡ noCoordinate) × (v .q ≡ noCoordinate)
+
+pub record AnswerByValue : Type 0 where
+  pub told : (n : ℕ) (p : Point) → SideBySide n p (pointValues n p)
+  -- it is made of the enum's number and values
+  pub made : (n : ℕ) (p : Point) (r : PointAnswer) → Answers n p r → asValues r ≡ pointValues n p
 
 -- "For BPSK the caller gives the symbol number from 1 in the frame .., and even symbols turn by 90 degrees anticlockwise, which
 -- makes (I, Q) into (−Q, I)"; other symbols, and other modulations, have the lent point

@@ -29,10 +29,10 @@ use Rattle.points.specs.declared.Point.{Point}
 use Rattle.points.specs.declared.PointAnswer.the-variants.{At, Refused}
 use Rattle.points.specs.Points.{quarterTurn, halfTurn, lentPoint, bpsk, shifted, pointOf, arrangedWidth, arrangedOf, usedOk}
 use Rattle.points.specs.PointLaws.{length-in-phase, length-quadrature, in-phase-at, quadrature-at}
-use Rattle.points.specs.AnswerLaws.{point-answered, refusal-answered}
+use Rattle.points.specs.AnswerLaws.{point-answered, refusal-answered, values-answered}
 use Rattle.points.specs.Numbers.{symbolOk, lentOk, lentNumber, mappedNumber, roomOk, usedNumber, pointNumber, pointsNumber, stepAnswer}
-use Rattle.points.specs.NumberLaws.{Lent, lent}
-use Rattle.demands.specs.PointRequests.{OneAnswer, SymbolsTurned, ArrangedTurned, ArrangedStepped, EntryOrNegation, CoordinatesLent, SignsTurned, CoordinatesExact, Finite, PointsFinite, TurnsBack, InOrder, PointsRefused, UnusedUnseen, LabelsTaken, RunOneByOne}
+use Rattle.points.specs.NumberLaws.{Lent, lent, and-true}
+use Rattle.demands.specs.PointRequests.{OneAnswer, AnswerByValue, SymbolsTurned, ArrangedTurned, ArrangedStepped, EntryOrNegation, CoordinatesLent, SignsTurned, CoordinatesExact, Finite, PointsFinite, TurnsBack, InOrder, PointsRefused, UnusedUnseen, LabelsTaken, RunOneByOne}
 
 pub one-answer : OneAnswer
 one-answer n p (At r) a =
@@ -41,6 +41,17 @@ one-answer n p (At r) a =
 one-answer n p (Refused k) a =
     let f = refusal-answered n k p a in
     record { accepted = λ z. absurd (f .1 z); refused = λ d. ap Refused (f .0) }
+
+pub answer-by-value : AnswerByValue
+answer-by-value =
+    record {
+      told = λ n p. record {
+        number-is = refl;
+        accepted = λ z. rw (eq-eqb n 0 z) (refl, refl);
+        refused = λ d. rw (ne-eqb n 0 d) (refl, refl);
+      };
+      made = values-answered;
+    }
 
 pub symbols-turned : SymbolsTurned
 unfolding pointOf shifted
@@ -160,16 +171,12 @@ and-false : (b : Bool) → (b && false) ≡ false
 and-false true = refl
 and-false false = refl
 
-and-true : (b : Bool) → (b && true) ≡ b
-and-true true = refl
-and-true false = refl
-
--- a call on one label whose areas have their lengths
+-- a call on one label
 mapped-ordered : (register : Bool) (m label symbol : ℕ) (ins quads : List Float)
-    → InOrder (modulationOk m) register (lentOk m symbol (length ins) (length quads)) (ltb label (2 ^ m)) (usedOk ins quads label) (mappedNumber register true m label symbol ins quads)
+    → InOrder (modulationOk m) register (lentOk m symbol (length ins) (length quads)) (ltb label (2 ^ m)) (usedOk ins quads label) (mappedNumber register m label symbol ins quads)
 unfolding mappedNumber lentNumber
 mapped-ordered register m label symbol ins quads =
-    rw (and-true (lentOk m symbol (length ins) (length quads))) (ordered (modulationOk m) register (lentOk m symbol (length ins) (length quads)) (ltb label (2 ^ m)) (usedOk ins quads label))
+    ordered (modulationOk m) register (lentOk m symbol (length ins) (length quads)) (ltb label (2 ^ m)) (usedOk ins quads label)
 
 pub points-refused : PointsRefused
 unfolding pointsNumber lentNumber labelNumber usedNumber lentOk symbolOk
@@ -205,13 +212,13 @@ record Taken (register : Bool) (m label symbol : ℕ) (ins quads : List Float) :
   label-right : ltb label (2 ^ m) ≡ true
   used-right : usedOk ins quads label ≡ true
 
-taken : (register : Bool) (m label symbol : ℕ) (ins quads : List Float) → mappedNumber register true m label symbol ins quads ≡ 0 → Taken register m label symbol ins quads
+taken : (register : Bool) (m label symbol : ℕ) (ins quads : List Float) → mappedNumber register m label symbol ins quads ≡ 0 → Taken register m label symbol ins quads
 unfolding mappedNumber
 taken register m label symbol ins quads h =
-    let a = then-zero (lentNumber m register (lentOk m symbol (length ins) (length quads) && true)) _ h in
+    let a = then-zero (lentNumber m register (lentOk m symbol (length ins) (length quads))) _ h in
     let b = then-zero (pick (ltb label (2 ^ m)) 0 LABEL) _ (a .1) in
     record {
-      lent-right = lent m symbol (length ins) (length quads) register true (a .0);
+      lent-right = lent m symbol (length ins) (length quads) register true (rw (and-true (lentOk m symbol (length ins) (length quads))) (a .0));
       label-right = not-refused (ltb label (2 ^ m)) LABEL (omega arith) (b .0);
       used-right = not-refused (usedOk ins quads label) COORDINATE (omega arith) (b .1);
     }

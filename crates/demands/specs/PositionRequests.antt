@@ -12,7 +12,6 @@ use Rattle.codeword.specs.declared.Shape.{Shape}
 use Rattle.codeword.specs.Reading.{noPosition, Failing, PositionTold}
 use Rattle.slot.specs.Slots.{slotShape}
 use Rattle.slot.specs.Calls.{rowsAt, readAnswer, checkAnswer}
-use Rattle.stream.specs.SlotPackets.{readPacketsAnswer}
 use Rattle.tmcc.specs.Blocks.{blockShape}
 use Rattle.tmcc.specs.Calls.{readAnswer as readBlockAnswer}
 use Rattle.frame.specs.Tables.{tableOf}
@@ -30,12 +29,6 @@ abbrev pub SlotPositionTold : Type 0
 SlotPositionTold =
     (s : FrameState) (t coded source : List ℕ)
     → PositionTold (slotShape (rowsAt s)) t coded (readAnswer s t coded source .number) (readAnswer s t coded source .position)
-
--- and the one that reads a slot's packets
-abbrev pub PacketsPositionTold : Type 0
-PacketsPositionTold =
-    (s : FrameState) (t coded header packets : List ℕ)
-    → PositionTold (slotShape (rowsAt s)) t coded (readPacketsAnswer s t coded header packets .number) (readPacketsAnswer s t coded header packets .position)
 
 -- "the whole-frame reader": "Another lent list of 120 numbers of 16 bits takes them in the whole-frame call, 65535 where the slot's
 -- answer isn't 8"

@@ -11,29 +11,19 @@ use Rattle.codeword.specs.Reading.{PositionTold}
 use Rattle.slot.specs.Slots.{slotShape}
 use Rattle.slot.specs.Calls.{rowsAt}
 use Rattle.slot.specs.PositionLaws.{received-told, read-told, check-told}
-use Rattle.stream.specs.SlotPackets.{roomNumber, slotAnswer, readPacketsAnswer}
-use Rattle.stream.specs.SlotPacketsLaws.{room-earlier}
 use Rattle.tmcc.specs.CallLaws as blocks
 use Rattle.frame.specs.Tables.{tableOf}
 use Rattle.frame.specs.Steps.{tableAt, answerAt, positionAt}
 use Rattle.frame.specs.StepLaws.{answer-data, answer-dummy}
 use Rattle.frame.specs.Frames.{rowsOfSlot, registerBefore, stateBefore, slotIn}
 use Rattle.frame.specs.FrameLaws.{answer-at, length-positionsOf, position-at}
-use Rattle.demands.specs.PositionRequests.{CheckPositionTold, SlotPositionTold, PacketsPositionTold, FramePositionsTold, BlockPositionTold, FailingOne, FailingBelow}
+use Rattle.demands.specs.PositionRequests.{CheckPositionTold, SlotPositionTold, FramePositionsTold, BlockPositionTold, FailingOne, FailingBelow}
 
 pub check-position-told : CheckPositionTold
 check-position-told = check-told
 
 pub slot-position-told : SlotPositionTold
 slot-position-told = read-told
-
-pub packets-position-told : PacketsPositionTold
-unfolding readPacketsAnswer slotAnswer
-packets-position-told s t coded header packets = go (ℕ-discrete (roomNumber s header packets) 0)
-  where
-    go : Dec (roomNumber s header packets ≡ 0) → PositionTold (slotShape (rowsAt s)) t coded (readPacketsAnswer s t coded header packets .number) (readPacketsAnswer s t coded header packets .position)
-    go (yes z) = rw (eq-eqb (roomNumber s header packets) 0 z) (read-told s t coded _)
-    go (no d) = rw (ne-eqb (roomNumber s header packets) 0 d) (record { failing = λ e. absurd (d (room-earlier s header packets (inr (inl e)))); none = λ f. refl })
 
 pub block-position-told : BlockPositionTold
 block-position-told = blocks.read-told

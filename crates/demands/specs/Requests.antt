@@ -20,6 +20,7 @@ use Rattle.plan.specs.Records.{ofColumns, planIn}
 use Rattle.plan.specs.Rates.{rateOk, rowsOf, modulationOk, dataOctetsOf}
 use Rattle.plan.specs.Plans.{groupsOk, allValuesOk, allFall, totalOk, planOk, planNumber}
 use Rattle.plan.specs.States.{opened, passed}
+use Rattle.plan_octets.specs.Groups.{ofOctets}
 use Rattle.plan_text.specs.Reading.{textNumber, planOf as planOfText}
 use Rattle.run_list.specs.Listing.{refusedText, answerText}
 use Rattle.published.specs.Published.{copyNumber}
@@ -30,7 +31,6 @@ use Rattle.codeword.specs.Words.{parityInput, withParity}
 use Rattle.codeword.specs.Reading.{runIn, parityIn, wrongPosition}
 use Rattle.slot.specs.Slots.{slotShape}
 use Rattle.slot.specs.Calls.{codeAnswer, readAnswer as readSlotAnswer, checkNumber}
-use Rattle.stream.specs.SlotPackets.{codePacketsAnswer, readPacketsAnswer}
 use Rattle.tmcc.specs.Blocks.{blockRows, blockShape}
 use Rattle.frame.specs.Frames.{frameNumber, readFrameNumber}
 use Rattle.lookup.specs.Lookups.{tablesNumber, placed}
@@ -39,7 +39,6 @@ use Rattle.tlv.specs.Fill.{filler, none, filled, streamBegins, report, takenAft
 use Rattle.tlv.specs.Read.{lostSlot}
 use Rattle.tlv.specs.Sent.{sentPackets, sentCut, plainPacket}
 use Rattle.tlv.specs.Calls.{slotsOf, slotsOk, takenOk, fillNumber, fillAnswer, fillSlots, fillBegins, markOk, allHold, readOk, readNumber, readAnswer, readPackets, laid}
-use Rattle.c_boundary.specs.Plans.{planOf}
 
 -- N1, "Every plan refused before is still refused, and no other": a plan is accepted exactly when it keeps all four rules
 abbrev pub PlanAccepted : Type 0
@@ -69,8 +68,6 @@ pub record StateAnswers (s : FrameState) (n : ℕ) : Type 0 where
   pub pass : passed s .number ≡ n
   pub code : (t source coded : List ℕ) → codeAnswer s t source coded .number ≡ n
   pub read : (t coded source : List ℕ) → readSlotAnswer s t coded source .number ≡ n
-  pub code-packets : (t header packets coded : List ℕ) → codePacketsAnswer s t header packets coded .number ≡ n
-  pub read-packets : (t coded header packets : List ℕ) → readPacketsAnswer s t coded header packets .number ≡ n
 
 -- a refused plan's number is the answer of each, whatever else is wrong
 abbrev pub RefusedPlanAnswered : Type 0
@@ -103,9 +100,9 @@ pub record LoneAnswered (m rate : ℕ) : Type 0 where
 abbrev pub UnknownRefused : Type 0
 UnknownRefused = (m rate : ℕ) → LoneAnswered m rate
 
--- the number of a plan that is lent as octets: modulation, rate and slots of each group
-abbrev pub octetsNumber : List ℕ → ℕ
-octetsNumber octets = planNumber (planOf octets)
+-- the number of a plan of so many groups, whose modulations, rates and slots are said one group behind the other
+abbrev pub groupsNumber : ℕ → List ℕ → ℕ
+groupsNumber count groups = planNumber (ofOctets count groups)
 
 -- a plan of nine groups of modulation 1, each with its rate: eight of 10 slots, and the last of so many
 abbrev pub nineGroups : (ℕ → ℕ) → ℕ → Plan
@@ -114,23 +111,23 @@ nineGroups rate last = ofColumns 9 (replicate 9 1) (table 9 rate) (replicate 8 1
 -- THE CASES WORKED BY HAND, and plans that break each of the rules and each pair of them
 pub record WorkedPlans : Type 0 where
   -- "Counts 115 + 5 accepted"
-  pub accepted : octetsNumber (4 ∷ 7 ∷ 115 ∷ 2 ∷ 3 ∷ 5 ∷ []) ≡ 0
+  pub accepted : groupsNumber 2 (4 ∷ 7 ∷ 115 ∷ 2 ∷ 3 ∷ 5 ∷ []) ≡ 0
   -- "So 115 alone is now 15, and 116 + 4 is 13"
-  pub alone : octetsNumber (4 ∷ 7 ∷ 115 ∷ []) ≡ TOTAL
-  pub no-fives : octetsNumber (4 ∷ 7 ∷ 116 ∷ 2 ∷ 3 ∷ 4 ∷ []) ≡ VALUE
+  pub alone : groupsNumber 1 (4 ∷ 7 ∷ 115 ∷ []) ≡ TOTAL
+  pub no-fives : groupsNumber 2 (4 ∷ 7 ∷ 116 ∷ 2 ∷ 3 ∷ 4 ∷ []) ≡ VALUE
   -- groups that rise
-  pub rising : octetsNumber (2 ∷ 3 ∷ 5 ∷ 4 ∷ 7 ∷ 115 ∷ []) ≡ ORDER
-  -- "Nine groups 1", as a plan and lent as octets
+  pub rising : groupsNumber 2 (2 ∷ 3 ∷ 5 ∷ 4 ∷ 7 ∷ 115 ∷ []) ≡ ORDER
+  -- "Nine groups 1", as columns of nine, and as a count above columns of eight
   pub nine : planNumber (nineGroups (λ g. 9 - g) 40) ≡ PLAN
-  pub nine-lent : octetsNumber (joined 9 (λ g. 1 ∷ (9 - g) ∷ 10 ∷ [])) ≡ PLAN
+  pub nine-lent : groupsNumber 9 (joined 8 (λ g. 1 ∷ (9 - g) ∷ 15 ∷ [])) ≡ PLAN
   -- nine groups with rate 12, that rise, of 125 slots
   pub nine-value : planNumber (nineGroups (λ g. 12 - g) 40) ≡ PLAN
   pub nine-order : planNumber (nineGroups (λ g. 1 + g) 40) ≡ PLAN
   pub nine-total : planNumber (nineGroups (λ g. 9 - g) 45) ≡ PLAN
   -- 4 + 116 that rise, rate 12 in 115 slots, groups that rise to 115 slots
-  pub value-order : octetsNumber (2 ∷ 3 ∷ 4 ∷ 4 ∷ 7 ∷ 116 ∷ []) ≡ VALUE
-  pub value-total : octetsNumber (4 ∷ 12 ∷ 115 ∷ []) ≡ VALUE
-  pub order-total : octetsNumber (2 ∷ 3 ∷ 5 ∷ 4 ∷ 7 ∷ 110 ∷ []) ≡ ORDER
+  pub value-order : groupsNumber 2 (2 ∷ 3 ∷ 4 ∷ 4 ∷ 7 ∷ 116 ∷ []) ≡ VALUE
+  pub value-total : groupsNumber 1 (4 ∷ 12 ∷ 115 ∷ []) ≡ VALUE
+  pub order-total : groupsNumber 2 (2 ∷ 3 ∷ 5 ∷ 4 ∷ 7 ∷ 110 ∷ []) ≡ ORDER
 
 -- N2, the numbers of filling in their order: "none is 4", "Taken above the length, owed above 3, or any owed unless taken is 0 or
 -- the whole length, is 4", "Refused: 16 packet ..; tested after 4"

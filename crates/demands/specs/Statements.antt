@@ -6,7 +6,7 @@ use mathlib.Core.List.{List, [], _∷_, _++_}
 use mathlib.Core.Logic.{_↔_}
 use Prim.Native.Nat.{ℕ, _+_, _-_, _%_, _^_, _<_, _≤_}
 use lib.Dec.{eqb}
-use lib.ListN.{length, getD, replicate}
+use lib.ListN.{length, getD, take, drop, replicate}
 use Rattle.lists.specs.Choice.{pick}
 use Rattle.lists.specs.Count.{table}
 use Rattle.lists.specs.Runs.{Octets}
@@ -37,7 +37,6 @@ use Rattle.codeword.specs.Reading.{parityIn, takenOff, bchIn, noPosition, Good,
 use Rattle.slot.specs.Slots.{slotShape, registerAfter}
 use Rattle.slot.specs.Reading.{covered, parity, noStuff, stuffOnes, MovesOn}
 use Rattle.slot.specs.Calls.{rowsAt, slotNumber, codeAnswer, codeArea, readAnswer, readArea, Reads, CodedAgain, CodedBack}
-use Rattle.stream.specs.SlotPackets.{headerOctets, codePacketsAnswer, codePacketsArea, readPacketsAnswer, readHeaderArea, readPacketsArea, ReadBack}
 use Rattle.tmcc.specs.Blocks.{sourceOctets as tmccOctets, blockShape, messageOf, blockOf, sourceOf}
 use Rattle.tmcc.specs.Calls.{lentNumber as blockLentNumber, codeNumber, readNumber}
 use Rattle.frame.specs.Tables.{tableOf, tablesOk}
@@ -61,24 +60,29 @@ SlotReadThenCoded =
     → readAnswer s t coded source .number ≡ 0
     → CodedBack s t (readAnswer s t coded source) (codeAnswer s t (readArea s t coded source) out) coded (codeArea s t (readArea s t coded source) out)
 
--- the same of header and packets: a slot coded from both gives both back, with the state that coding gave
+-- "header 176" bits, in octets
+abbrev pub headerOctets : ℕ
+headerOctets = 22
+
+-- "Packing one slot's packets into data octets, and unpacking with 0x47 put back, are lone calls; slot and frame calls take data
+-- octets": header and packets that were packed and coded are, of the slot that is read, the header and the packets
+pub record PacketsBack (rate : ℕ) (source header packets : List ℕ) : Type 0 where
+  pub header-is : take headerOctets source ≡ header
+  pub packets-are : BackAgain (unpackNumber rate (drop headerOctets source) (length packets)) (unpacked (packetsOf rate) (drop headerOctets source)) packets
+
 abbrev pub PacketsCodedThenRead : Type 0
 PacketsCodedThenRead =
-    (s : FrameState) (t header packets coded head found : List ℕ) → Octets header → Octets packets
-    → length head ≡ headerOctets → length found ≡ length packets
-    → codePacketsAnswer s t header packets coded .number ≡ 0
-    → let c = codePacketsArea s t header packets coded in
-    ReadBack (readPacketsAnswer s t c head found) (readHeaderArea s t c head found) (readPacketsArea s t c head found)
-    (codePacketsAnswer s t header packets coded .state) stuffOnes header packets
+    (s : FrameState) (rate room : ℕ) (t header packets coded out : List ℕ) → Octets header → Octets packets
+    → length header ≡ headerOctets → packNumber rate packets room ≡ 0
+    → let source = header ++ packed (packetsOf rate) packets in
+    length out ≡ length source → codeAnswer s t source coded .number ≡ 0
+    → PacketsBack rate (readArea s t (codeArea s t source coded) out) header packets
 
--- and a slot that was accepted, coded again from the header and packets that were read, is that slot again in the same sense
-abbrev pub PacketsReadThenCoded : Type 0
-PacketsReadThenCoded =
-    (s : FrameState) (t coded head found out : List ℕ) → Octets coded → length out ≡ length coded
-    → readPacketsAnswer s t coded head found .number ≡ 0
-    → let h = readHeaderArea s t coded head found in
-    let p = readPacketsArea s t coded head found in
-    CodedBack s t (readPacketsAnswer s t coded head found) (codePacketsAnswer s t h p out) coded (codePacketsArea s t h p out)
+-- and the packets of a slot that was read, packed again behind its header, are what was read, of which `SlotReadThenCoded` speaks
+abbrev pub PacketsReadThenPacked : Type 0
+PacketsReadThenPacked =
+    (rate room : ℕ) (source : List ℕ) → unpackNumber rate (drop headerOctets source) room ≡ 0
+    → take headerOctets source ++ packed (packetsOf rate) (unpacked (packetsOf rate) (drop headerOctets source)) ≡ source
 
 -- "In a whole-frame call the groups' tables follow each other in group order": the published ones of an accepted plan are
 -- tables that no whole-frame call refuses

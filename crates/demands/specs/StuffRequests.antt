@@ -15,7 +15,6 @@ use Rattle.codeword.specs.Words.{wordOf}
 use Rattle.slot.specs.Slots.{stuffBits, slotShape}
 use Rattle.slot.specs.Reading.{noStuff, stuffOnes}
 use Rattle.slot.specs.Calls.{rowsAt, slotNumber, nextState, readAnswer, readArea, checkNumber, Reads}
-use Rattle.stream.specs.SlotPackets.{readPacketsAnswer}
 use Rattle.tmcc.specs.Calls.{readNumber as readBlockNumber}
 use Rattle.frame.specs.Frames.{answersOf, stuffsOf, readFrameNumber}
 use Rattle.tlv.specs.Calls.{readNumber as readTlvNumber}
@@ -49,11 +48,6 @@ abbrev pub SlotStuffAnswered : Type 0
 SlotStuffAnswered =
     (s : FrameState) (t coded source : List ℕ) → StuffAnswered (readAnswer s t coded source .number) (readAnswer s t coded source .stuff)
 
-abbrev pub PacketsStuffAnswered : Type 0
-PacketsStuffAnswered =
-    (s : FrameState) (t coded header packets : List ℕ)
-    → StuffAnswered (readPacketsAnswer s t coded header packets .number) (readPacketsAnswer s t coded header packets .stuff)
-
 -- "a whole-frame read puts them in 120 further octets, 255 where the slot's answer isn't 0"
 abbrev pub FrameStuffAnswered : Type 0
 FrameStuffAnswered =
@@ -67,7 +61,6 @@ NotTen n = n ≡ 10 → ⊥
 
 pub record NeverTen : Type 0 where
   pub slot : (s : FrameState) (t coded source : List ℕ) → NotTen (readAnswer s t coded source .number)
-  pub packets : (s : FrameState) (t coded header packets : List ℕ) → NotTen (readPacketsAnswer s t coded header packets .number)
   pub frame : (p : Plan) (mask start : ℕ) (ts : List ℕ) (source frame answers stuff positions : ℕ)
       → NotTen (readFrameNumber p mask start ts source frame answers stuff positions)
   pub answer : (p : Plan) (ts : List ℕ) (mask start : ℕ) (frame : List ℕ) (k : ℕ) → k < 120 → NotTen (getD (answersOf p ts mask start frame) k 0)

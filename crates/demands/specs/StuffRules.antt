@@ -38,11 +38,10 @@ use Rattle.slot.specs.SlotLaws.{sizes, fits}
 use Rattle.slot.specs.declared.SlotRead.{SlotRead}
 use Rattle.slot.specs.Reading.{receivedNumber, stuffIn, stuffWith, sourceOf, checkedNumber}
 use Rattle.slot.specs.ReadingLaws.{stuff-below}
-use Rattle.slot.specs.Calls.{rowsAt, dataNumber, slotNumber, readNumber, readAnswer, readArea, rateNumber, formNumber, checkNumber}
+use Rattle.slot.specs.Calls.{rowsAt, dataNumber, slotNumber, readNumber, readAnswer, readArea, formNumber, checkNumber}
 use Rattle.slot.specs.CallLaws.{accepted-slot}
-use Rattle.stream.specs.SlotPackets.{headerOctets, rateAt, roomNumber, sourceArea, slotAnswer, readPacketsAnswer}
 use Rattle.tmcc.specs.Blocks.{sourceOctets as tmccOctets, blockShape}
-use Rattle.tmcc.specs.Calls.{settingsNumber, lentNumber as blockLentNumber, readNumber as readBlockNumber}
+use Rattle.tmcc.specs.Calls.{lentNumber as blockLentNumber, readNumber as readBlockNumber}
 use Rattle.frame.specs.Tables.{tablesOk}
 use Rattle.frame.specs.Steps.{tableAt, answerAt, stuffAt}
 use Rattle.frame.specs.Frames.{stateBefore, slotIn, sourceFrom, answersOf, wholeNumber, readFrameNumber}
@@ -51,7 +50,7 @@ use Rattle.tlv.specs.Calls.{readOk, readNumber as readTlvNumber}
 use Rattle.setting_block.specs.Layout.{settingOctets, edition}
 use Rattle.setting_block.specs.Blocks.{planIn as settingPlan, registersIn, blockOk, registersOk, settingNumber, blockNumber}
 use Rattle.settings.specs.Cards.{cardOk, cardNumber, blockAt, readNumber as readSettingsNumber}
-use Rattle.demands.specs.StuffRequests.{slotWith, AnyStuffRead, WorkedStuff, StuffAnswered, SlotStuffAnswered, PacketsStuffAnswered, FrameStuffAnswered, NotTen, NeverTen}
+use Rattle.demands.specs.StuffRequests.{slotWith, AnyStuffRead, WorkedStuff, StuffAnswered, SlotStuffAnswered, FrameStuffAnswered, NotTen, NeverTen}
 
 pub any-stuff-read : AnyStuffRead
 unfolding readAnswer readArea readNumber receivedNumber stuffIn sourceOf
@@ -84,14 +83,6 @@ beside n x l = record { accepted = λ e. rw (eq-eqb n 0 e) (omega arith); refuse
 pub slot-stuff-answered : SlotStuffAnswered
 unfolding readAnswer
 slot-stuff-answered s t coded source = beside _ _ (stuff-below (rowsAt s) (s .mask) (s .register) coded)
-
-pub packets-stuff-answered : PacketsStuffAnswered
-unfolding readPacketsAnswer slotAnswer
-packets-stuff-answered s t coded header packets = go (ℕ-discrete (roomNumber s header packets) 0)
-  where
-    go : Dec (roomNumber s header packets ≡ 0) → StuffAnswered (readPacketsAnswer s t coded header packets .number) (readPacketsAnswer s t coded header packets .stuff)
-    go (yes z) = rw (eq-eqb (roomNumber s header packets) 0 z) (slot-stuff-answered s t coded _)
-    go (no d) = rw (ne-eqb (roomNumber s header packets) 0 d) (record { accepted = λ z. absurd (d z); refused = λ f. refl })
 
 pub frame-stuff-answered : FrameStuffAnswered
 unfolding stuffAt
@@ -139,14 +130,6 @@ slot-not-ten s t coded source =
     let F = slotShape (rowsAt s) in
     then-each NotTen (then-each NotTen (data-not-ten s) (lent-not-ten F (sourceOctets (rowsAt s)) t source coded)) (word-not-ten F t (s .mask) (s .register) coded)
 
-packets-not-ten : (s : FrameState) (t coded header packets : List ℕ) → NotTen (readPacketsAnswer s t coded header packets .number)
-unfolding readPacketsAnswer slotAnswer readAnswer roomNumber
-packets-not-ten s t coded header packets =
-    let long = eqb (length header) headerOctets && eqb (length packets) (188 * packetsOf (rateAt s)) in
-    pick-each (λ (a : SlotRead). NotTen (a .number)) (eqb (roomNumber s header packets) 0)
-    (slot-not-ten s t coded (sourceArea s))
-    (then-each NotTen (data-not-ten s) (test long LENGTH (λ e. omega arith)))
-
 frame-not-ten : (p : Plan) (mask start : ℕ) (ts : List ℕ) (source frame answers stuff positions : ℕ)
     → NotTen (readFrameNumber p mask start ts source frame answers stuff positions)
 unfolding readFrameNumber wholeNumber openNumber
@@ -164,7 +147,7 @@ answer-not-ten p ts mask start frame k h =
     (pick-each NotTen (carries p (k + 1)) (word-not-ten (slotShape (rowsAt s)) (tableAt s ts) mask (s .register) (slotIn frame k)) (λ e. omega arith))
 
 check-not-ten : (rate : ℕ) (t coded : List ℕ) → NotTen (checkNumber rate t coded)
-unfolding checkNumber rateNumber formNumber checkedNumber
+unfolding checkNumber formNumber checkedNumber
 check-not-ten rate t coded =
     let F = slotShape (rowsOf rate) in
     then-each NotTen
@@ -173,7 +156,7 @@ check-not-ten rate t coded =
     (parity-not-ten F (wrongPosition F t coded))
 
 block-not-ten : (mask start : ℕ) (t block source : List ℕ) → NotTen (readBlockNumber mask start t block source)
-unfolding readBlockNumber blockLentNumber settingsNumber
+unfolding readBlockNumber blockLentNumber
 block-not-ten mask start t block source =
     then-each NotTen
     (then-each NotTen (test (settingsOk blockWidth mask start) REGISTER (λ e. omega arith)) (lent-not-ten blockShape tmccOctets t source block))
@@ -223,7 +206,6 @@ unfolding readAnswer
 never-ten =
     record {
       slot = slot-not-ten;
-      packets = packets-not-ten;
       frame = frame-not-ten;
       answer = answer-not-ten;
       parity = check-not-ten;

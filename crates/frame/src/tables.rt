@@ -17,7 +17,7 @@ pub fn find_tables(plan: Plan, tables: &[u16], ends: &mut [usize]) -> bool
     let mut g: usize = 0;
     ends[0] = 0;
     while g < count {
-        let length = parity_table::table_length(plan::rows(plan.rate[g]), &tables[at..]);
+        let length = parity_table::table_length(plan::rows(plan.rate[g] as u32), &tables[at..]);
         if length == 0 {
             return false;
         }

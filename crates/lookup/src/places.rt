@@ -17,7 +17,7 @@ fn no_place() -> Place
     }
 }
 
-fn place_number(plan: Plan, slot: u16) -> u8
+fn place_number(plan: Plan, slot: u32) -> u8
     ensures { λ r. ⌜ r ≡ placeNumber plan slot ⌝ }
 {
     if slot == 0 {
@@ -34,12 +34,12 @@ fn place_number(plan: Plan, slot: u16) -> u8
 }
 
 // The place of a slot from 1 to 120, or the refusal and a place of zeros.
-pub fn place(plan: Plan, slot: u16) -> Placed
+pub fn place(plan: Plan, slot: u32) -> Placed
     ensures { λ r. ⌜ r ≡ placed plan slot ⌝ }
 {
     let number = place_number(plan, slot);
     if number == 0 {
-        let place = plan::place_of(plan, lists::index(slot));
+        let place = plan::place_of(plan, slot as usize);
         return Placed { number, place };
     }
     let place = no_place();

@@ -17,7 +17,7 @@ fn entries(plan: Plan) -> usize
     let mut sum: usize = 0;
     let mut g: usize = 0;
     while g < count {
-        sum += published::table_length(plan.rate[g]);
+        sum += published::table_length(plan.rate[g] as u32);
         g += 1;
     }
     sum
@@ -43,7 +43,7 @@ fn put_tables(plan: Plan, tables: &mut [u16])
     let mut at: usize = 0;
     let mut g: usize = 0;
     while g < count {
-        let rate = plan.rate[g];
+        let rate = plan.rate[g] as u32;
         let end = at + published::table_length(rate);
         published::copy_table(rate, &mut tables[at..end]);
         at = end;

@@ -15,6 +15,8 @@ use Rattle.refusal.specs.Numbers.{PLAN, LENGTH, SYNC}
 use Rattle.lists.specs.Count.{every}
 use Rattle.lists.specs.CountLaws.{every-at, every-all, joined-none, joined-more, joined-same}
 use Rattle.lists.specs.Parts.{part}
+use Rattle.lists.specs.Runs.{Octets}
+use Rattle.lists.specs.RunLaws.{below-append, below-part}
 use Rattle.lists.specs.PartLaws.{length-part}
 use Rattle.plan.specs.Rates.{rateOk, dataOctetsOf, packetsOf}
 use Rattle.plan.specs.RateLaws.{rate-sizes}
@@ -147,6 +149,13 @@ pub pack-ready-yes : (rate : ℕ) (packets : List ℕ) (room : ℕ) → PackRead
 unfolding packNumber
 pack-ready-yes rate packets room r =
     then-both (sizeNumber rate (length packets) room) _ (sized-yes rate (length packets) room (r .sized)) (rw (r .syncs))
+
+-- packing makes octets of octets
+pub packed-octets : (n : ℕ) (packets : List ℕ) → Octets packets → Octets (packed n packets)
+packed-octets zero packets o = λ k. rw (packed-none packets) (omega arith)
+packed-octets (suc n) packets o =
+    rw (← add-one n, packed-more n packets)
+    (below-append 255 (packed n packets) _ (packed-octets n packets o) (below-part 255 (188 * n + 1) (188 * (n + 1)) packets o))
 
 pub pack-unpack : (rate : ℕ) (packets : List ℕ) (room : ℕ) → packNumber rate packets room ≡ 0
     → BackAgain (unpackNumber rate (packed (packetsOf rate) packets) (length packets)) (unpacked (packetsOf rate) (packed (packetsOf rate) packets)) packets

@@ -9,7 +9,7 @@ use crate::carry::put_back;
 use crate::carry::syncs_ok;
 
 // The refusal of an unknown rate or a wrong length, or 0.
-fn size_number(rate: u16, packets: usize, octets: usize) -> u8
+fn size_number(rate: u32, packets: usize, octets: usize) -> u8
     ensures { λ r. ⌜ r ≡ sizeNumber rate packets octets ⌝ }
 {
     if !plan::known(rate, plan::RATES) {
@@ -25,7 +25,7 @@ fn size_number(rate: u16, packets: usize, octets: usize) -> u8
 }
 
 // The refusal of packing, or 0, with the length of the area for the data octets.
-pub fn pack_number(rate: u16, packets: &[u8], room: usize) -> u8
+fn pack_number(rate: u32, packets: &[u8], room: usize) -> u8
     ensures { λ r. ⌜ r ≡ packNumber rate (now (packets .entry)) room ⌝ }
 {
     let number = size_number(rate, packets.len(), room);
@@ -39,7 +39,7 @@ pub fn pack_number(rate: u16, packets: &[u8], room: usize) -> u8
 }
 
 // Packs one slot's packets into data octets; a refusal leaves the octets as they were.
-pub fn pack(rate: u16, packets: &[u8], octets: &mut [u8]) -> u8
+pub fn pack(rate: u32, packets: &[u8], octets: &mut [u8]) -> u8
     ensures { λ r. ⌜ Answered (packNumber rate (now (packets .entry)) (length (now (octets .entry)))) (packed (packetsOf rate) (now (packets .entry))) (now (octets .entry)) r (now (octets .exit)) ⌝ }
 {
     let number = pack_number(rate, packets, octets.len());
@@ -51,7 +51,7 @@ pub fn pack(rate: u16, packets: &[u8], octets: &mut [u8]) -> u8
 }
 
 // Unpacks one slot's data octets into packets; a refusal leaves the packets as they were.
-pub fn unpack(rate: u16, octets: &[u8], packets: &mut [u8]) -> u8
+pub fn unpack(rate: u32, octets: &[u8], packets: &mut [u8]) -> u8
     ensures { λ r. ⌜ Answered (unpackNumber rate (now (octets .entry)) (length (now (packets .entry)))) (unpacked (packetsOf rate) (now (octets .entry))) (now (packets .entry)) r (now (packets .exit)) ⌝ }
 {
     let number = size_number(rate, packets.len(), octets.len());

@@ -3,5 +3,4 @@ mod calls;
 mod carry;
 
 pub use calls::pack;
-pub use calls::pack_number;
 pub use calls::unpack;

@@ -12,8 +12,8 @@ fn values_ok(plan: Plan, g: usize) -> bool
     ensures { λ r. ⌜ r ≡ valuesOk plan g ⌝ }
 {
     let slots = plan.slots[g];
-    if known(plan.modulation[g], MODULATIONS) {
-        if known(plan.rate[g], RATES) {
+    if known(plan.modulation[g] as u32, MODULATIONS) {
+        if known(plan.rate[g] as u32, RATES) {
             if 1 <= slots {
                 return slots % 5 == 0;
             }
@@ -115,7 +115,7 @@ fn rule_number(values: bool, order: bool, whole: bool) -> u8
 pub fn plan_number(plan: Plan) -> u8
     ensures { λ r. ⌜ r ≡ planNumber plan ⌝ }
 {
-    if known(plan.count, 8) {
+    if known(plan.count as u32, 8) {
         let values = all_values_ok(plan);
         let order = all_fall(plan);
         let whole = total(plan) == 120;

@@ -45,6 +45,7 @@ pub const BLOCK_OCTETS: usize = 3960;
 pub const BLOCK_WIDTH: u32 = 15;
 
 // A slot plan: of the groups 0, 1, .. the first `count` are in use.
+#[repr(C)]
 pub struct Plan {
     pub count: u16,
     pub modulation: [u16; 8],
@@ -53,14 +54,16 @@ pub struct Plan {
 }
 
 // Where a slot lies: its group, with the group's modulation and rate, and whether the slot carries data or is a dummy.
+#[repr(C)]
 pub struct Place {
     pub group: usize,
-    pub modulation: u16,
-    pub rate: u16,
+    pub modulation: u32,
+    pub rate: u32,
     pub carries: bool,
 }
 
 // The frame state: the plan's groups, the register's settings, the next slot number from 1, and the register.
+#[repr(C)]
 pub struct FrameState {
     pub count: u16,
     pub modulation: [u16; 8],
@@ -73,6 +76,7 @@ pub struct FrameState {
 }
 
 // What a call answers: its number, 0 or the refusal, and the state after it.
+#[repr(C)]
 pub struct Answer {
     pub number: u8,
     pub state: FrameState,

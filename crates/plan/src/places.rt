@@ -21,8 +21,8 @@ pub fn place_of(plan: Plan, slot: usize) -> Place
     let filled = data_slots(plan, g);
     Place {
         group: g,
-        modulation: plan.modulation[g],
-        rate: plan.rate[g],
+        modulation: plan.modulation[g] as u32,
+        rate: plan.rate[g] as u32,
         carries: slot - 1 - passed < filled,
     }
 }

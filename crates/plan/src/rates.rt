@@ -5,12 +5,12 @@ ghost use lib.Dec.{leb};
 ghost use Rattle.plan.specs.Rates.{rowsOf, dataOctetsOf, packetsOf};
 
 // How many rates and modulations there are; they are numbered from 1.
-pub const RATES: u16 = 11;
+pub const RATES: u32 = 11;
 
-pub const MODULATIONS: u16 = 5;
+pub const MODULATIONS: u32 = 5;
 
 // Whether x is a number from 1 to most.
-pub fn known(x: u16, most: u16) -> bool
+pub fn known(x: u32, most: u32) -> bool
     ensures { λ r. ⌜ r ≡ (leb 1 x && leb x most) ⌝ }
 {
     if x < 1 {
@@ -22,17 +22,17 @@ pub fn known(x: u16, most: u16) -> bool
 const ROWS: [usize; 12] = [0, 41, 49, 61, 73, 81, 89, 93, 97, 101, 105, 109];
 
 // The rows R of the parity table.
-pub fn rows(rate: u16) -> usize
+pub fn rows(rate: u32) -> usize
     ensures { λ r. ⌜ r ≡ rowsOf rate ⌝ }
 {
     if RATES < rate {
         return 0;
     }
-    ROWS[lists::index(rate)]
+    ROWS[rate as usize]
 }
 
 // The data octets of a slot.
-pub fn data_octets(rate: u16) -> usize
+pub fn data_octets(rate: u32) -> usize
     ensures { λ r. ⌜ r ≡ dataOctetsOf rate ⌝ }
 {
     let count = rows(rate);
@@ -43,7 +43,7 @@ pub fn data_octets(rate: u16) -> usize
 }
 
 // The packets of a slot.
-pub fn packets(rate: u16) -> usize
+pub fn packets(rate: u32) -> usize
     ensures { λ r. ⌜ r ≡ packetsOf rate ⌝ }
 {
     data_octets(rate) / 187

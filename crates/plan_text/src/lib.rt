@@ -25,6 +25,7 @@ pub struct Line {
 }
 
 // What reading a text answers: 0 and the plan, or the refusal and a plan of zeros.
+#[repr(C)]
 pub struct PlanRead {
     pub number: u8,
     pub plan: Plan,

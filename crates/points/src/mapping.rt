@@ -7,10 +7,10 @@ use crate::turns::is_finite;
 use crate::turns::quarter_turn;
 
 // The number of BPSK, whose even symbols are turned.
-pub const BPSK: u16 = 1;
+pub const BPSK: u32 = 1;
 
 // A point as symbol number `symbol`.
-fn shift(modulation: u16, symbol: usize, p: Point) -> Point
+fn shift(modulation: u32, symbol: usize, p: Point) -> Point
     ensures { λ r. ⌜ r ≡ shifted modulation symbol p ⌝ }
 {
     if modulation == BPSK {
@@ -23,7 +23,7 @@ fn shift(modulation: u16, symbol: usize, p: Point) -> Point
 
 // The point of a label as symbol number `symbol`.
 pub fn point_of(
-    modulation: u16,
+    modulation: u32,
     symbol: usize,
     in_phase: &[f32],
     quadrature: &[f32],
@@ -52,7 +52,7 @@ pub fn used_ok(in_phase: &[f32], quadrature: &[f32], label: usize) -> bool
 
 // Puts the coordinates of the labels' points, the first label as symbol number `symbol`.
 pub fn put_points(
-    modulation: u16,
+    modulation: u32,
     symbol: u32,
     labels: &[u8],
     in_phase: &[f32],

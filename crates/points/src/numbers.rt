@@ -8,7 +8,7 @@ use crate::mapping::BPSK;
 use crate::mapping::used_ok;
 
 // Whether a symbol number is allowed: 0 is not, where the number counts.
-fn symbol_ok(modulation: u16, symbol: u32) -> bool
+fn symbol_ok(modulation: u32, symbol: u32) -> bool
     ensures { λ r. ⌜ r ≡ symbolOk modulation symbol ⌝ }
 {
     if modulation == BPSK {
@@ -18,11 +18,11 @@ fn symbol_ok(modulation: u16, symbol: u32) -> bool
 }
 
 // Whether both lists, given as their lengths, have an entry for each label, and the symbol number is allowed.
-fn lent_ok(modulation: u16, symbol: u32, in_phase: usize, quadrature: usize) -> bool
+fn lent_ok(modulation: u32, symbol: u32, in_phase: usize, quadrature: usize) -> bool
     requires { ⌜ modulation ≤ 5 ⌝ }
     ensures { λ r. ⌜ r ≡ lentOk modulation symbol in_phase quadrature ⌝ }
 {
-    let entries = 1usize << lists::index(modulation);
+    let entries = 1usize << modulation as usize;
     if in_phase != entries {
         return false;
     }
@@ -34,7 +34,7 @@ fn lent_ok(modulation: u16, symbol: u32, in_phase: usize, quadrature: usize) -> 
 
 // What every call tests first: the modulation, the register, and what is lent, with the room for what it makes.
 pub fn lent_number(
-    modulation: u16,
+    modulation: u32,
     register: bool,
     symbol: u32,
     in_phase: usize,
@@ -85,7 +85,7 @@ fn room_ok(labels: usize, i: usize, q: usize) -> bool
 
 // What the call on a run of labels tests, both areas given as their lengths.
 pub fn points_number(
-    modulation: u16,
+    modulation: u32,
     symbol: u32,
     labels: &[u8],
     in_phase: &[f32],
@@ -107,7 +107,7 @@ pub fn points_number(
     if number != 0 {
         return number;
     }
-    let label = symbols::label_number(lists::index(modulation), labels);
+    let label = symbols::label_number(modulation as usize, labels);
     if label != 0 {
         return label;
     }

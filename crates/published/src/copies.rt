@@ -18,12 +18,12 @@ fn start(k: usize) -> usize
 }
 
 // The length of the published table of a rate; 0 for a number that is no rate's.
-pub fn table_length(rate: u16) -> usize
+pub fn table_length(rate: u32) -> usize
     ensures { λ r. ⌜ r ≡ lengthOf rate ⌝ }
     ensures { λ r. ⌜ r ≤ 510 ⌝ }
 {
     if plan::known(rate, plan::RATES) {
-        let k = lists::index(rate) - 1;
+        let k = rate as usize - 1;
         let from = start(k);
         return start(k + 1) - from;
     }
@@ -42,14 +42,14 @@ fn copy(from: &[u16], to: &mut [u16])
 }
 
 // Copies the table of a rate from all of them.
-fn copy_from(tables: &[u16], rate: u16, area: &mut [u16]) -> u8
+fn copy_from(tables: &[u16], rate: u32, area: &mut [u16]) -> u8
     requires { ⌜ now tables ≡ joined 11 tableAt ⌝ }
     ensures { λ r. ⌜ Answered (copyNumber rate (now (area .entry))) (tableOf rate) (now (area .entry)) r (now (area .exit)) ⌝ }
 {
     if !plan::known(rate, plan::RATES) {
         return refusal::PLAN;
     }
-    let k = lists::index(rate) - 1;
+    let k = rate as usize - 1;
     let from = start(k);
     let to = start(k + 1);
     if area.len() != to - from {
@@ -60,7 +60,7 @@ fn copy_from(tables: &[u16], rate: u16, area: &mut [u16]) -> u8
 }
 
 // Copies the published table of a rate from 1 to 11 into an area of exactly its length.
-pub fn copy_table(rate: u16, area: &mut [u16]) -> u8
+pub fn copy_table(rate: u32, area: &mut [u16]) -> u8
     ensures { λ r. ⌜ Answered (copyNumber rate (now (area .entry))) (tableOf rate) (now (area .entry)) r (now (area .exit)) ⌝ }
 {
     let tables = TABLES;

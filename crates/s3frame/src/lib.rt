@@ -1,15 +1,20 @@
-// The calls for C and Rust: numbers and slices in, the number of document 01 out.
+// The calls for C and Rust. Each is an entry of a crate below, with its parameters, its answer and its contract; structs go in
+// and come back by value.
+mod card;
 mod frames;
 mod labels;
 mod packing;
-mod settings;
+mod plans;
 mod signal_points;
 mod slots;
 mod states;
 mod tables;
-mod tlv;
+mod tlv_packets;
 mod tmcc_block;
+mod version;
 
+pub use card::s3_read_settings;
+pub use card::s3_replace_settings;
 pub use frames::s3_code_frame;
 pub use frames::s3_read_frame;
 pub use frames::s3_source_octets;
@@ -20,16 +25,14 @@ pub use labels::s3_tmcc_of_labels;
 pub use packing::s3_pack;
 pub use packing::s3_packets_of;
 pub use packing::s3_unpack;
-pub use settings::s3_read_settings;
-pub use settings::s3_replace_settings;
+pub use plans::s3_plan_list;
+pub use plans::s3_plan_of_text;
 pub use signal_points::s3_arranged_point;
 pub use signal_points::s3_arranged_step;
 pub use signal_points::s3_point;
 pub use signal_points::s3_points;
 pub use slots::s3_check_parity;
-pub use slots::s3_code_packets;
 pub use slots::s3_code_slot;
-pub use slots::s3_read_packets;
 pub use slots::s3_read_slot;
 pub use states::s3_open;
 pub use states::s3_pass;
@@ -38,7 +41,8 @@ pub use tables::s3_published_table;
 pub use tables::s3_published_tables;
 pub use tables::s3_table_entries;
 pub use tables::s3_tables_entries;
-pub use tlv::s3_tlv_fill;
-pub use tlv::s3_tlv_read;
+pub use tlv_packets::s3_tlv_fill;
+pub use tlv_packets::s3_tlv_read;
 pub use tmcc_block::s3_code_tmcc;
 pub use tmcc_block::s3_read_tmcc;
+pub use version::s3_version;

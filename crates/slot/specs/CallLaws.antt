@@ -25,7 +25,7 @@ use Rattle.plan.specs.StateLaws.{Ready, ready, ready-yes}
 use Rattle.codeword.specs.CallLaws.{Lent, lent, lent-yes, lent-earlier}
 use Rattle.codeword.specs.AnswerLaws.{Earlier, earlier, earlier-then, earlier-test}
 use Rattle.slot.specs.Slots.{sourceOctets, slotShape}
-use Rattle.slot.specs.Calls.{rowsAt, dataNumber, slotNumber, rateNumber, formNumber}
+use Rattle.slot.specs.Calls.{rowsAt, dataNumber, slotNumber, formNumber}
 
 -- a state at a data slot
 pub record AtData (s : FrameState) : Type 0 where
@@ -88,13 +88,9 @@ pub slot-earlier : (s : FrameState) (t source coded : List ℕ) → Earlier (slo
 unfolding slotNumber
 slot-earlier s t source coded = earlier-then (data-earlier s) (lent-earlier (slotShape (rowsAt s)) (sourceOctets (rowsAt s)) t source coded)
 
-pub rate-earlier : (rate : ℕ) → Earlier (rateNumber rate)
-unfolding rateNumber
-rate-earlier rate = earlier-test (rateOk rate) PLAN refl
-
 pub form-earlier : (rate : ℕ) (t coded : List ℕ) → Earlier (formNumber rate t coded)
 unfolding formNumber
 form-earlier rate t coded =
-    earlier-then (rate-earlier rate)
+    earlier-then (earlier-test (rateOk rate) PLAN refl)
     (earlier-then (earlier-test (eqb (length coded) slotOctets) LENGTH refl)
     (earlier-test (tableOk (rowsOf rate) t) TABLE refl))

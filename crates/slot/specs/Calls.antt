@@ -70,14 +70,10 @@ unfoldable pub readArea : FrameState → List ℕ → List ℕ → List ℕ → 
 readArea s t coded source =
     pick (eqb (readNumber s t coded source) 0) (sourceOf (rowsAt s) (s .mask) (s .register) coded) source
 
--- "Lone parity check: 1"
-unfoldable pub rateNumber : ℕ → ℕ
-rateNumber rate = pick (rateOk rate) 0 PLAN
-
--- ", 4, 5": what is tested before the parity
+-- "Lone parity check: 1, 4, 5": what is tested before the parity
 unfoldable pub formNumber : ℕ → List ℕ → List ℕ → ℕ
 formNumber rate t coded =
-    andThen (rateNumber rate)
+    andThen (pick (rateOk rate) 0 PLAN)
     (andThen (pick (eqb (length coded) slotOctets) 0 LENGTH)
     (pick (tableOk (rowsOf rate) t) 0 TABLE))
 

@@ -16,7 +16,7 @@ use Rattle.plan.specs.Sizes.{slotOctets}
 use Rattle.codeword.specs.AnswerLaws.{answer-refused, answer-looked}
 use Rattle.codeword.specs.Reading.{noPosition}
 use Rattle.slot.specs.Reading.{checkedAnswer}
-use Rattle.slot.specs.Calls.{rateNumber, formNumber, checkNumber, checkAnswer}
+use Rattle.slot.specs.Calls.{formNumber, checkNumber, checkAnswer}
 use Rattle.slot.specs.CallLaws.{form-earlier}
 
 -- what a number 0 says of the rate, the slot and the table
@@ -26,9 +26,9 @@ pub record Formed (rate : ℕ) (t c : List ℕ) : Type 0 where
   pub table : tableOk (rowsOf rate) t ≡ true
 
 pub formed : (rate : ℕ) (t c : List ℕ) → formNumber rate t c ≡ 0 → Formed rate t c
-unfolding formNumber rateNumber
+unfolding formNumber
 formed rate t c h =
-    let a = then-zero (rateNumber rate) _ h in
+    let a = then-zero (pick (rateOk rate) 0 PLAN) _ h in
     let b = then-zero (pick (eqb (length c) slotOctets) 0 LENGTH) _ (a .1) in
     record {
       rate-known = not-refused (rateOk rate) PLAN (omega arith) (a .0);

@@ -1,27 +1,16 @@
 // The lone parity check.
 ghost use mathlib.Core.Path.{_≡_};
 ghost use Rattle.slot.specs.Reading.{checkedAnswer};
-ghost use Rattle.slot.specs.Calls.{rateNumber, formNumber, checkAnswer};
+ghost use Rattle.slot.specs.Calls.{formNumber, checkAnswer};
 ghost use Rattle.slot.specs.Areas.{Checked};
 use codeword::WordAnswer;
 
-// The refusal of the rate, or 0.
-pub fn rate_number(rate: u16) -> u8
-    ensures { λ r. ⌜ r ≡ rateNumber rate ⌝ }
-{
-    if plan::known(rate, plan::RATES) {
-        return 0;
-    }
-    refusal::PLAN
-}
-
 // The refusal of the rate, of the slot's length or of the table, or 0.
-fn form_number(rate: u16, table: &[u16], coded: &[u8]) -> u8
+fn form_number(rate: u32, table: &[u16], coded: &[u8]) -> u8
     ensures { λ r. ⌜ r ≡ formNumber rate (now (table .entry)) (now (coded .entry)) ⌝ }
 {
-    let number = rate_number(rate);
-    if number != 0 {
-        return number;
+    if !plan::known(rate, plan::RATES) {
+        return refusal::PLAN;
     }
     if coded.len() != plan::SLOT_OCTETS {
         return refusal::LENGTH;
@@ -63,7 +52,7 @@ fn checked(
 }
 
 // Checks the parity of a slot of a rate, whatever its dispersal: its number, and where it broke.
-pub fn check_parity(rate: u16, table: &[u16], coded: &[u8]) -> WordAnswer
+pub fn check_parity(rate: u32, table: &[u16], coded: &[u8]) -> WordAnswer
     ensures { λ r. ⌜ r ≡ checkAnswer rate (now (table .entry)) (now (coded .entry)) ⌝ }
 {
     let number = form_number(rate, table, coded);

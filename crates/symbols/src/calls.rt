@@ -11,7 +11,7 @@ use crate::runs::label_octets;
 use crate::runs::unlabel_octets;
 
 // The labels of a slot; a refusal leaves the labels as they were.
-pub fn labels_of_slot(modulation: u16, rate: u16, slot: &[u8], labels: &mut [u8]) -> u8
+pub fn labels_of_slot(modulation: u32, rate: u32, slot: &[u8], labels: &mut [u8]) -> u8
     ensures { λ r. ⌜ Answered (slotNumber modulation rate (length (now (slot .entry))) (length (now (labels .entry)))) (labelsOfSlot modulation rate (now (slot .entry))) (now (labels .entry)) r (now (labels .exit)) ⌝ }
 {
     let number = slot_number(modulation, rate, slot.len(), labels.len());
@@ -20,7 +20,7 @@ pub fn labels_of_slot(modulation: u16, rate: u16, slot: &[u8], labels: &mut [u8]
     }
     let mut run = [0u8; plan::SLOT_BITS];
     label_octets(
-        lists::index(modulation),
+        modulation as usize,
         right_to_left(modulation, rate),
         slot,
         &mut run,
@@ -30,7 +30,7 @@ pub fn labels_of_slot(modulation: u16, rate: u16, slot: &[u8], labels: &mut [u8]
 }
 
 // The slot of labels; a refusal leaves the slot as it was.
-pub fn slot_of_labels(modulation: u16, rate: u16, labels: &[u8], slot: &mut [u8]) -> u8
+pub fn slot_of_labels(modulation: u32, rate: u32, labels: &[u8], slot: &mut [u8]) -> u8
     ensures { λ r. ⌜ Answered (slotOfLabelsNumber modulation rate (now (labels .entry)) (length (now (slot .entry)))) (slotOfLabels modulation rate (now (labels .entry))) (now (slot .entry)) r (now (slot .exit)) ⌝ }
 {
     let number = slot_of_labels_number(modulation, rate, labels, slot.len());
@@ -39,7 +39,7 @@ pub fn slot_of_labels(modulation: u16, rate: u16, labels: &[u8], slot: &mut [u8]
     }
     let mut run = [0u8; plan::SLOT_BITS];
     unlabel_octets(
-        lists::index(modulation),
+        modulation as usize,
         right_to_left(modulation, rate),
         labels,
         &mut run,

@@ -33,14 +33,14 @@ pub fn label_number(modulation: usize, labels: &[u8]) -> u8
 }
 
 // What both slot calls test: modulation and rate, then the lengths.
-pub fn slot_number(modulation: u16, rate: u16, octets: usize, labels: usize) -> u8
+pub fn slot_number(modulation: u32, rate: u32, octets: usize, labels: usize) -> u8
     ensures { λ r. ⌜ r ≡ slotNumber modulation rate octets labels ⌝ }
 {
     if plan::known(modulation, plan::MODULATIONS) {
         if plan::known(rate, plan::RATES) {
             return length_number(
                 plan::SLOT_OCTETS,
-                plan::SLOT_BITS / lists::index(modulation),
+                plan::SLOT_BITS / modulation as usize,
                 octets,
                 labels,
             );
@@ -50,14 +50,14 @@ pub fn slot_number(modulation: u16, rate: u16, octets: usize, labels: usize) -> 
 }
 
 // What the way back of a slot tests: the same, then the labels.
-pub fn slot_of_labels_number(modulation: u16, rate: u16, labels: &[u8], room: usize) -> u8
+pub fn slot_of_labels_number(modulation: u32, rate: u32, labels: &[u8], room: usize) -> u8
     ensures { λ r. ⌜ r ≡ slotOfLabelsNumber modulation rate (now (labels .entry)) room ⌝ }
 {
     let number = slot_number(modulation, rate, room, labels.len());
     if number != 0 {
         return number;
     }
-    label_number(lists::index(modulation), labels)
+    label_number(modulation as usize, labels)
 }
 
 // What both block calls test: the lengths; a label has one bit, so there are as many labels as bits.

@@ -5,7 +5,7 @@ ghost use Rattle.symbols.specs.Index.{rightToLeft, bitAt, strideOf};
 ghost use Rattle.symbols.specs.Needs.{PlaceOf, Taking, grown, Putting, Put, weighed};
 
 // Whether rows are read from the right.
-pub fn right_to_left(modulation: u16, rate: u16) -> bool
+pub fn right_to_left(modulation: u32, rate: u32) -> bool
     ensures { λ r. ⌜ r ≡ rightToLeft modulation rate ⌝ }
 {
     if rate <= 2 {

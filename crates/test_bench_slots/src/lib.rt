@@ -82,9 +82,9 @@ fn with_areas(
 )
     requires { ⌜ Room (now table) (now source) (now found) ⌝ }
 {
-    let numbers = published::table_length(rate);
+    let numbers = published::table_length(rate as u32);
     let octets = test_samples::source_length(rate);
-    published::copy_table(rate, &mut table[0..numbers]);
+    published::copy_table(rate as u32, &mut table[0..numbers]);
     run(
         rate,
         codings,

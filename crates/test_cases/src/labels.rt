@@ -9,7 +9,7 @@ fn of_8psk(name: &[u8], first: u8, slot: &mut [u8]) {
 }
 
 // The first label of a slot whose first bit alone is set.
-fn of_32apsk(name: &[u8], rate: u16, slot: &[u8]) {
+fn of_32apsk(name: &[u8], rate: u32, slot: &[u8]) {
     let mut labels = [0u8; 8976];
     symbols::labels_of_slot(5, rate, slot, &mut labels);
     line(name, lists::wide(labels[0]));

@@ -29,5 +29,5 @@ pub fn opened(rate: u16) -> FrameState {
 pub fn source_length(rate: u16) -> usize
     ensures { λ r. ⌜ r ≤ mostSource ⌝ }
 {
-    22 + plan::data_octets(rate)
+    22 + plan::data_octets(rate as u32)
 }

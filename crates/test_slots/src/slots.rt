@@ -14,7 +14,7 @@ fn read_line(
 ) {
     test_samples::fill(0, found);
     let answer = slot_reader::read_slot(state, table, coded, found);
-    let check = slot_check::check_parity(rate, table, coded);
+    let check = slot_check::check_parity(rate as u32, table, coded);
     lines::read(rate, state.slot, damage, answer, check, found);
 }
 
@@ -59,9 +59,9 @@ fn frame_lines(rate: u16, table: &[u16], source: &mut [u8], found: &mut [u8]) {
 fn with_areas(rate: u16, table: &mut [u16], source: &mut [u8], found: &mut [u8])
     requires { ⌜ Room (now table) (now source) (now found) ⌝ }
 {
-    let numbers = published::table_length(rate);
+    let numbers = published::table_length(rate as u32);
     let octets = test_samples::source_length(rate);
-    published::copy_table(rate, &mut table[0..numbers]);
+    published::copy_table(rate as u32, &mut table[0..numbers]);
     frame_lines(
         rate,
         &table[0..numbers],

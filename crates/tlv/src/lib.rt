@@ -14,6 +14,7 @@ pub const NULL: u8 = 0xFF;
 pub const NONE: u16 = 65535;
 
 // What filling answers: octets taken in all, and octets of a cut filler that are owed.
+#[repr(C)]
 pub struct FillAnswer {
     pub number: u8,
     pub taken: usize,
@@ -21,6 +22,7 @@ pub struct FillAnswer {
 }
 
 // What reading answers: octets written, and where in the slots the unfinished one begins.
+#[repr(C)]
 pub struct ReadAnswer {
     pub number: u8,
     pub written: usize,

@@ -30,8 +30,8 @@ fn taken_ok(length: usize, taken: usize, owed: usize) -> bool
 }
 
 // The refusal of an unknown rate or of what is lent, or 0, with the lengths of packets, slots and reports.
-pub fn lent_number(
-    rate: u16,
+fn lent_number(
+    rate: u32,
     length: usize,
     taken: usize,
     owed: usize,
@@ -54,7 +54,7 @@ pub fn lent_number(
 
 // The refusal of filling, or 0.
 fn fill_number(
-    rate: u16,
+    rate: u32,
     packets: &[u8],
     taken: usize,
     owed: usize,
@@ -76,7 +76,7 @@ fn fill_number(
 // Fills slots with the packets from `taken` on and fillers behind them, and says where in each slot the first begins; a
 // refusal leaves slots and reports as they were.
 pub fn fill(
-    rate: u16,
+    rate: u32,
     packets: &[u8],
     taken: usize,
     owed: usize,

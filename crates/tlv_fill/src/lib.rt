@@ -5,4 +5,3 @@ mod octets;
 mod packets;
 
 pub use calls::fill;
-pub use calls::lent_number;

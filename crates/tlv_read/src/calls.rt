@@ -75,8 +75,8 @@ fn lent_ok(
 }
 
 // The refusal of reading, or 0, with the octets of the packets' area.
-pub fn read_number(
-    rate: u16,
+fn read_number(
+    rate: u32,
     slots: &[u8],
     begins: &[u16],
     lost: &[u8],
@@ -97,17 +97,17 @@ pub fn read_number(
 
 // Reads the packets of slots into an area as long as these; a refusal leaves it as it was.
 pub fn read(
-    rate: u16,
+    rate: u32,
     slots: &[u8],
     begins: &[u16],
     lost: &[u8],
-    first: usize,
+    first: u32,
     packets: &mut [u8],
 ) -> ReadAnswer
     ensures { λ r. ⌜ r ≡ readAnswer rate (now (slots .entry)) (now (begins .entry)) (now (lost .entry)) first (now (packets .entry)) ⌝ }
     ensures { λ r. ⌜ now (packets .exit) ≡ readPackets rate (now (slots .entry)) (now (begins .entry)) (now (lost .entry)) first (now (packets .entry)) ⌝ }
 {
-    let number = read_number(rate, slots, begins, lost, first, packets.len());
+    let number = read_number(rate, slots, begins, lost, first as usize, packets.len());
     if number != 0 {
         return ReadAnswer {
             number: number,
@@ -117,6 +117,6 @@ pub fn read(
     }
     let size = plan::data_octets(rate);
     let count = begins.len();
-    let from = start_at(size, count, lost, begins, first);
+    let from = start_at(size, count, lost, begins, first as usize);
     read_from(size, count, slots, lost, begins, from, packets)
 }

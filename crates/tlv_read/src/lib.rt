@@ -4,4 +4,3 @@ mod slots;
 mod steps;
 
 pub use calls::read;
-pub use calls::read_number;

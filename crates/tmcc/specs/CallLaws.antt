@@ -8,6 +8,7 @@ use native.Mathlib.Omega.{arith}
 use borrow.Author.Tests.{eqb-true, eq-eqb}
 use lib.ListN.{length, drop, replicate, length-drop}
 use lib.Seq.{take-all}
+use Rattle.lists.specs.Choice.{pick}
 use Rattle.lists.specs.ChoiceLaws.{then-zero, not-refused, and-left, and-right}
 use Rattle.lists.specs.RunLaws.{below-drop}
 use Rattle.refusal.specs.Numbers.{REGISTER, TAIL}
@@ -23,7 +24,7 @@ use Rattle.codeword.specs.ReadingLaws.{word-parity}
 use Rattle.codeword.specs.AnswerLaws.{Earlier, earlier-then, earlier-test, answer-refused, answer-looked, position-told}
 use Rattle.plan.specs.Sizes.{blockWidth}
 use Rattle.tmcc.specs.Blocks.{sourceOctets, messageBits, blockShape}
-use Rattle.tmcc.specs.Calls.{settingsNumber, lentNumber, tailOk, codeNumber, readNumber, readAnswer}
+use Rattle.tmcc.specs.Calls.{lentNumber, tailOk, codeNumber, readNumber, readAnswer}
 
 -- accepted settings, and what a codeword is lent
 pub record Lent (mask start : ℕ) (t source block : List ℕ) : Type 0 where
@@ -32,9 +33,9 @@ pub record Lent (mask start : ℕ) (t source block : List ℕ) : Type 0 where
   pub areas : LentWord blockShape sourceOctets t source block
 
 pub lent : (mask start : ℕ) (t source block : List ℕ) → lentNumber mask start t source block ≡ 0 → Lent mask start t source block
-unfolding lentNumber settingsNumber
+unfolding lentNumber
 lent mask start t source block h =
-    let a = then-zero (settingsNumber mask start) _ h in
+    let a = then-zero (pick (settingsOk blockWidth mask start) 0 REGISTER) _ h in
     let s = not-refused (settingsOk blockWidth mask start) REGISTER (omega arith) (a .0) in
     record { mask-ok = and-left (maskOk blockWidth mask) _ s; start-ok = and-right (maskOk blockWidth mask) _ s; areas = words.lent blockShape sourceOctets t source block (a .1) }
 
@@ -71,14 +72,10 @@ codable mask start t source block h =
     record { lent = lent mask start t source block (a .0); tail = not-refused (tailOk source) TAIL (omega arith) (a .1) }
 
 -- the numbers tested before the block itself is read are neither 8 nor 9
-pub settings-earlier : (mask start : ℕ) → Earlier (settingsNumber mask start)
-unfolding settingsNumber
-settings-earlier mask start = earlier-test (settingsOk blockWidth mask start) REGISTER refl
-
 pub lent-earlier : (mask start : ℕ) (t source block : List ℕ) → Earlier (lentNumber mask start t source block)
 unfolding lentNumber
 lent-earlier mask start t source block =
-    earlier-then (settings-earlier mask start) (words.lent-earlier blockShape sourceOctets t source block)
+    earlier-then (earlier-test (settingsOk blockWidth mask start) REGISTER refl) (words.lent-earlier blockShape sourceOctets t source block)
 
 -- the answer of a reading: where it is refused before the block is looked at, and where it is not
 module _ (mask start : ℕ) (t block source : List ℕ) where

@@ -15,14 +15,10 @@ use Rattle.codeword.specs.Calls.{lentNumber as wordLentNumber}
 use Rattle.codeword.specs.Reading.{wrongPosition, wordAnswer, wordNumber}
 use Rattle.tmcc.specs.Blocks.{sourceOctets, messageBits, blockShape}
 
--- "6": the settings
-unfoldable pub settingsNumber : ℕ → ℕ → ℕ
-settingsNumber mask start = pick (settingsOk blockWidth mask start) 0 REGISTER
-
--- ", 4, 5": the 1,178 and the 3,960 octets, and the parity table
+-- "6, 4, 5": the settings, the 1,178 and the 3,960 octets, and the parity table
 unfoldable pub lentNumber : ℕ → ℕ → List ℕ → List ℕ → List ℕ → ℕ
 lentNumber mask start t source block =
-    andThen (settingsNumber mask start) (wordLentNumber blockShape sourceOctets t source block)
+    andThen (pick (settingsOk blockWidth mask start) 0 REGISTER) (wordLentNumber blockShape sourceOctets t source block)
 
 -- 11: "one of the last two TMCC bits is 1", the two as a number
 unfoldable pub tailOk : List ℕ → Bool

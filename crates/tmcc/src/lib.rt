@@ -5,7 +5,6 @@ ghost use Rattle.tmcc.specs.Blocks.{blockShape};
 mod calls;
 
 pub use calls::lent_number;
-pub use calls::settings_number;
 use codeword::Shape;
 
 // The rows of the parity table, those of rate 3.

@@ -4,24 +4,17 @@ use mathlib.Core.Bool.{true}
 use Prim.Native.Nat.{ℕ}
 use native.Mathlib.Omega.{arith}
 use borrow.Author.Needs.{needs}
-use borrow.Author.Tests.{eq-eqb, ne-eqb}
-use Rattle.lists.specs.ChoiceLaws.{then-first, then-next, not-refused}
-use Rattle.refusal.specs.Numbers.{PLAN}
+use borrow.Author.Tests.{eq-eqb, ne-eqb, not-true, not-false}
 use Rattle.parity_table.specs.Tables.{tableOk}
 use Rattle.plan.specs.Rates.{rateOk, rowsOf}
 use Rattle.plan.specs.RateLaws.{rate-rows}
-use Rattle.slot.specs.Calls.{rateNumber, formNumber}
+use Rattle.slot.specs.Calls.{formNumber}
 use Rattle.slot_check.proofs.form_number.Statement.{statement}
 use Rattle.slot_check.proofs.form_number.Tie as tie
 
--- the rate is not refused
-passed : (c : tie.Else1) → rateNumber (c .before .before .before .before .args .rate) ≡ 0
-passed c = sym (c .before .rate-number .ensures) ∙ c .if1 .left
-
--- so it is known
+-- the test of the rate is the definition's
 known : (c : tie.Else1) → rateOk (c .before .before .before .before .args .rate) ≡ true
-unfolding rateNumber
-known c = not-refused (rateOk (c .before .before .before .before .args .rate)) PLAN (omega arith) (passed c)
+known c = sym (c .before .known .ensures) ∙ not-false _ (c .if1 .left)
 
 -- what the test of the table says
 accepted : (c : tie.After-table-ok) → let a = c .before .before .before .before .before .before .before .args in c .table-ok .result ≡ tableOk (rowsOf (a .rate)) (a .table .now)
@@ -31,13 +24,11 @@ accepted c =
 
 returns : tie.Need-returns
 unfolding formNumber
-returns c =
-    let e = c .before .rate-number .ensures in
-    e ∙ sym (then-first _ _ (λ z. c .if1 .taken (e ∙ z)))
+returns c = rw (sym (c .before .known .ensures) ∙ not-true _ (c .if1 .taken))
 
 returns-2 : tie.Need-returns-2
 unfolding formNumber
-returns-2 c = rw (passed (c .before), ne-eqb _ 5610 (c .if2 .taken))
+returns-2 c = rw (known (c .before), ne-eqb _ 5610 (c .if2 .taken))
 
 table-ok-requires : tie.Need-table-ok-requires
 table-ok-requires c κs =
@@ -49,13 +40,13 @@ returns-3 : tie.Need-returns-3
 unfolding formNumber
 returns-3 c =
     let w = c .before .before .before in
-    rw (passed (w .before), eq-eqb _ 5610 (w .if2 .left), ← accepted (c .before), c .if3 .taken)
+    rw (known (w .before), eq-eqb _ 5610 (w .if2 .left), ← accepted (c .before), c .if3 .taken)
 
 returns-4 : tie.Need-returns-4
 unfolding formNumber
 returns-4 c =
     let w = c .before .before .before in
-    rw (passed (w .before), eq-eqb _ 5610 (w .if2 .left), ← accepted (c .before), c .if3 .left)
+    rw (known (w .before), eq-eqb _ 5610 (w .if2 .left), ← accepted (c .before), c .if3 .left)
 
 pub form-number-spec : {M : Type 1} → statement M
 form-number-spec = tie.close (tie.spec (λ c κs. search needs) returns returns-2 (λ c κs. search needs) table-ok-requires returns-3 returns-4)

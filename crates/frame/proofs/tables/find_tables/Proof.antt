@@ -152,6 +152,7 @@ find-tables-spec =
     loop-holds
     (λ c. let h = eighth c in search needs)
     (λ c. eighth c)
+    (λ c. search needs)
     (λ c κs. search needs)
     (λ c. let h = within c in search needs)
     (λ c. within c)

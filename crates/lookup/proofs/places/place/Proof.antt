@@ -8,17 +8,14 @@ use Rattle.lookup.proofs.places.place.Statement.{statement}
 use Rattle.lookup.proofs.places.place.Tie as tie
 
 place-of-requires : tie.Need-place-of-requires
-place-of-requires c κs =
-    let n = c .before .before .place-number .ensures in
-    rw (c .index .ensures .0) (slot-there _ _ (sym n ∙ c .before .if1 .taken))
+place-of-requires c κs = slot-there _ _ (sym (c .before .place-number .ensures) ∙ c .if1 .taken)
 
 returns : tie.Need-returns
 unfolding placed
 returns c =
-    let i = c .before in
-    let t = i .before in
+    let t = c .before in
     let n = t .before .place-number .ensures in
-    rw (← n, eq-eqb _ 0 (t .if1 .taken)) (ap (λ p. record { number = t .before .place-number .result; place = p }) (rw (i .index .ensures .0) at (c .place-of .ensures)))
+    rw (← n, eq-eqb _ 0 (t .if1 .taken)) (ap (λ p. record { number = t .before .place-number .result; place = p }) (c .place-of .ensures))
 
 returns-2 : tie.Need-returns-2
 unfolding placed
@@ -28,4 +25,4 @@ returns-2 c =
     rw (← n, ne-eqb _ 0 (e .if1 .left)) (ap (λ p. record { number = e .before .place-number .result; place = p }) (c .no-place .ensures))
 
 pub place-spec : {M : Type 1} → statement M
-place-spec = tie.close (tie.spec (λ c κs. search needs) (λ c κs. search needs) place-of-requires returns (λ c κs. search needs) returns-2)
+place-spec = tie.close (tie.spec (λ c κs. search needs) place-of-requires returns (λ c κs. search needs) returns-2)

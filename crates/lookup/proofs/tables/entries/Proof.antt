@@ -63,6 +63,7 @@ entries-spec =
     loop-holds
     (λ c. search needs)
     (λ c. search needs)
+    (λ c. search needs)
     (λ c κs. search needs)
     (λ c. omega (arith, c .table-length .ensures .1, c .before .before .before .loop .inv .small, c .before .before .before .loop .inv .few))
     (λ c. search needs)

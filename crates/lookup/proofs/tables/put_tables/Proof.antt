@@ -91,6 +91,7 @@ put-tables-spec =
     loop-holds
     (λ c. search needs)
     (λ c. search needs)
+    (λ c. search needs)
     (λ c κs. search needs)
     (λ c. omega (arith, within c))
     (λ c. search needs)

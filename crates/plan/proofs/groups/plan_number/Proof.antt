@@ -8,8 +8,8 @@ use Rattle.plan.proofs.groups.plan_number.Statement.{statement}
 use Rattle.plan.proofs.groups.plan_number.Tie as tie
 
 -- at most eight groups are in use
-few : (c : tie.Then1) → c .before .before .args .plan .count ≤ 8
-few c = between 1 8 (c .before .before .args .plan .count) (sym (c .before .known .ensures) ∙ c .if1 .taken) .high
+few : (c : tie.Then1) → c .before .before .before .args .plan .count ≤ 8
+few c = between 1 8 (c .before .before .before .args .plan .count) (sym (c .before .known .ensures) ∙ c .if1 .taken) .high
 
 returns : tie.Need-returns
 unfolding planNumber groupsOk
@@ -24,4 +24,4 @@ unfolding planNumber groupsOk
 returns-2 c = rw (sym (c .before .known .ensures) ∙ c .if1 .left)
 
 pub plan-number-spec : {M : Type 1} → statement M
-plan-number-spec = tie.close (tie.spec (λ c κs. search needs) (λ c κs. few c) (λ c κs. few (c .before)) (λ c κs. few (c .before .before)) (λ c κs. search needs) returns returns-2)
+plan-number-spec = tie.close (tie.spec (λ c. search needs) (λ c κs. search needs) (λ c κs. few c) (λ c κs. few (c .before)) (λ c κs. few (c .before .before)) (λ c κs. search needs) returns returns-2)

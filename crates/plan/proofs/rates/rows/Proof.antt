@@ -1,5 +1,5 @@
 -- `plan::rows`: the constant is the list of the definition.
-use mathlib.Core.Path.{sym, ap}
+use mathlib.Core.Path.{sym}
 use native.Mathlib.Omega.{arith}
 use borrow.Author.Needs.{needs}
 use lib.ListN.{List·getD-eq-default}
@@ -13,7 +13,7 @@ returns c = sym (List·getD-eq-default rowCounts 0 {n = c .before .args .rate} (
 
 returns-2 : tie.Need-returns-2
 unfolding rowsOf
-returns-2 c = ap rowsOf (c .index .ensures .0)
+returns-2 c = search needs
 
 pub rows-spec : {M : Type 1} → statement M
-rows-spec = tie.close (tie.spec returns (λ c κs. search needs) (λ c. search needs) (λ c. search needs) returns-2)
+rows-spec = tie.close (tie.spec returns (λ c. search needs) (λ c. search needs) returns-2)

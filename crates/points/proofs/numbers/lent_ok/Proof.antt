@@ -1,6 +1,6 @@
 -- `points::lent_ok`: both lengths, then the symbol number.
-use mathlib.Core.Path.{_≡_, _∙_, ap, sym}
-use Prim.Native.Nat.{ℕ, _*_, _%_, _^_}
+use mathlib.Core.Path.{_≡_, _∙_, sym}
+use Prim.Native.Nat.{_*_, _%_, _^_}
 use borrow.Author.Needs.{needs}
 use borrow.Author.Tests.{eq-eqb, ne-eqb}
 use Rattle.symbols.specs.LabelLaws.{one-shifted}
@@ -9,8 +9,8 @@ use Rattle.points.proofs.numbers.lent_ok.Statement.{statement}
 use Rattle.points.proofs.numbers.lent_ok.Tie as tie
 
 -- the entries that both lists must have
-entries : (c : tie.After-index) → 1 * 2 ^ (c .index .result) % 2 ^ 64 ≡ 2 ^ (c .before .args .modulation)
-entries c = ap (λ (m : ℕ). 1 * 2 ^ m % 2 ^ 64) (c .index .ensures .0) ∙ one-shifted (c .before .args .modulation) (c .before .pre)
+entries : (c : tie.Start) → 1 * 2 ^ (c .args .modulation) % 2 ^ 64 ≡ 2 ^ (c .args .modulation)
+entries c = one-shifted (c .args .modulation) (c .pre)
 
 returns : tie.Need-returns
 unfolding lentOk
@@ -29,4 +29,4 @@ returns-3 c =
     c .symbol-ok .ensures ∙ rw (eq-eqb _ _ (c .before .before .if1 .left ∙ entries i), eq-eqb _ _ (c .before .if2 .left ∙ entries i))
 
 pub lent-ok-spec : {M : Type 1} → statement M
-lent-ok-spec = tie.close (tie.spec (λ c κs. search needs) (λ c. search needs) returns returns-2 (λ c κs. search needs) returns-3)
+lent-ok-spec = tie.close (tie.spec (λ c. search needs) returns returns-2 (λ c κs. search needs) returns-3)

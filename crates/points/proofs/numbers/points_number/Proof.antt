@@ -31,36 +31,34 @@ returns c = let e = first (c .before) in e ∙ sym (then-first _ _ (λ z. c .if1
 
 label-number-requires : tie.Need-label-number-requires
 label-number-requires c κs =
-    let m = c .before .before .before .before .before .before .before .args .modulation in
-    omega (arith, c .index .ensures .0, leb-true m 5 (and-right (leb 1 m) _ (sound (c .before) .known)))
+    let m = c .before .before .before .before .before .before .args .modulation in
+    leb-true m 5 (and-right (leb 1 m) _ (sound c .known))
 
 -- the labels' number
-second : (c : tie.After-label-number) → let s = c .before .before .before .before .before .before .before .before .args in c .label-number .result ≡ labelNumber (s .modulation) (s .labels .now)
-second c =
-    let u = c .before .before .before .before .before .before .before .before .args .labels .now in
-    c .label-number .ensures ∙ ap (λ (m : ℕ). labelNumber m u) (c .before .index .ensures .0)
+second : (c : tie.After-label-number) → let s = c .before .before .before .before .before .before .before .args in c .label-number .result ≡ labelNumber (s .modulation) (s .labels .now)
+second c = c .label-number .ensures
 
 returns-2 : tie.Need-returns-2
 unfolding pointsNumber
 returns-2 c =
     let l = c .before in
-    let n = l .before .before in
+    let n = l .before in
     let e = second l in
     e ∙ sym (then-next _ _ (sym (first (n .before)) ∙ n .if1 .left) ∙ then-first _ _ (λ z. c .if2 .taken (e ∙ z)))
 
 used-number-requires : tie.Need-used-number-requires
 used-number-requires c κs r h =
     let l = c .before in
-    listed (sound (l .before .before)) _ (labels-fit _ _ (sym (second l) ∙ c .if2 .left) r h)
+    listed (sound (l .before)) _ (labels-fit _ _ (sym (second l) ∙ c .if2 .left) r h)
 
 returns-3 : tie.Need-returns-3
 unfolding pointsNumber
 returns-3 c =
     let l = c .before .before in
-    let n = l .before .before in
+    let n = l .before in
     c .used-number .ensures ∙ sym (then-next _ _ (sym (first (n .before)) ∙ n .if1 .left) ∙ then-next _ _ (sym (second l) ∙ c .before .if2 .left))
 
 pub points-number-spec : {M : Type 1} → statement M
 points-number-spec =
     tie.close
-    (tie.spec (λ c κs. search needs) (λ c κs. search needs) returns (λ c κs. search needs) label-number-requires returns-2 used-number-requires returns-3)
+    (tie.spec (λ c κs. search needs) (λ c κs. search needs) returns label-number-requires returns-2 used-number-requires returns-3)

@@ -1,14 +1,13 @@
 -- `published::copy_from`: each refusal has its number; the part between two starts is the table.
-use mathlib.Core.Path.{_≡_, sym, ap, _∙_}
+use mathlib.Core.Path.{_≡_, sym, _∙_}
 use mathlib.Core.Bool.{true}
-use Prim.Native.Nat.{ℕ, _+_, _-_}
+use Prim.Native.Nat.{_-_}
 use native.Mathlib.Omega.{arith}
 use borrow.Author.Needs.{needs}
 use borrow.Author.Tests.{not-true, not-false}
-use Rattle.lists.specs.CountLaws.{joinedAt}
 use Rattle.plan.specs.Rates.{rateOk}
 use Rattle.plan.specs.RateLaws.{Between, between}
-use Rattle.published.specs.Published.{tableAt, tableOf}
+use Rattle.published.specs.Published.{tableOf}
 use Rattle.published.specs.PublishedLaws.{number-unknown, number-long, number-good}
 use Rattle.refusal.specs.AnswerLaws.{refused, accepted}
 use Rattle.published.proofs.Starts.{Placed, placed}
@@ -29,20 +28,19 @@ bounds c = between 1 11 _ (known c)
 
 -- the table at the rate's place
 place : (c : tie.After-start2) →
-    (let a = c .before .before .before .before .before .before .before .args in
+    (let a = c .before .before .before .before .before .before .args in
     Placed (a .tables .now) (a .rate - 1) (c .before .start .result) (c .start2 .result))
 place c =
-    let s = c .before .before .before .before .before .before .before in
-    let e : c .before .before .index .result - 1 ≡ s .args .rate - 1 = ap (λ (n : ℕ). n - 1) (c .before .before .index .ensures .0) in
-    placed (s .args .tables .now) (s .args .rate - 1) (c .before .start .result) (c .start2 .result) (s .pre) (omega (arith, bounds (c .before .before .before)))
-    (c .before .start .ensures ∙ ap (joinedAt tableAt) e)
-    (c .start2 .ensures ∙ ap (λ (n : ℕ). joinedAt tableAt (n + 1)) e)
+    let s = c .before .before .before .before .before .before in
+    placed (s .args .tables .now) (s .args .rate - 1) (c .before .start .result) (c .start2 .result) (s .pre) (omega (arith, bounds (c .before .before)))
+    (c .before .start .ensures)
+    (c .start2 .ensures)
 
 returns-2 : tie.Need-returns-2
 returns-2 c =
-    let a = c .before .before .before .before .before .before .before .before .args in
+    let a = c .before .before .before .before .before .before .before .args in
     let p = place (c .before) in
-    let k = known (c .before .before .before .before) in
+    let k = known (c .before .before .before) in
     refused _ (tableOf (a .rate)) (a .area .now) 4
     (sym (number-long (a .rate) (a .area .now) k (λ e. c .if2 .taken (e ∙ sym (p .long)))))
     (λ e. omega arith)
@@ -55,9 +53,9 @@ copy-requires c κs =
 returns-3 : tie.Need-returns-3
 returns-3 c =
     let e = c .before .before .before .before .before in
-    let a = e .before .before .before .before .before .before .before .before .args in
+    let a = e .before .before .before .before .before .before .before .args in
     let p = place (e .before) in
-    let k = known (e .before .before .before .before) in
+    let k = known (e .before .before .before) in
     accepted _ (tableOf (a .rate)) (a .area .now) _
     (number-good (a .rate) (a .area .now) k (e .if2 .left ∙ p .long))
     (c .before .before .copy .ensures ∙ p .there)
@@ -68,11 +66,10 @@ copy-from-spec =
     (tie.spec
     (λ c κs. search needs)
     returns
-    (λ c κs. search needs)
-    (λ c. omega (arith, bounds (c .before), c .index .ensures))
-    (λ c κs. omega (arith, bounds (c .before), c .index .ensures))
+    (λ c. omega (arith, bounds c))
+    (λ c κs. omega (arith, bounds c))
     (λ c. search needs)
-    (λ c κs. omega (arith, bounds (c .before .before), c .before .index .ensures))
+    (λ c κs. omega (arith, bounds (c .before)))
     (λ c. place c .order)
     returns-2
     (λ c. omega (arith, place (c .before)))

@@ -1,10 +1,10 @@
 -- `published::table_length`: the table lies between two starts.
-use mathlib.Core.Path.{_≡_, sym, ap, _∙_}
-use Prim.Native.Nat.{ℕ, _+_, _-_}
+use mathlib.Core.Path.{_≡_, sym, _∙_}
+use Prim.Native.Nat.{_+_, _-_}
 use native.Mathlib.Omega.{arith}
 use borrow.Author.Needs.{needs}
 use lib.ListN.{length}
-use Rattle.lists.specs.CountLaws.{joinedAt, sum-more}
+use Rattle.lists.specs.CountLaws.{sum-more}
 use Rattle.plan.specs.RateLaws.{Between, between}
 use Rattle.published.specs.Published.{tableAt, tableOf, lengthOf}
 use Rattle.published.specs.PublishedLaws.{table-short}
@@ -17,19 +17,15 @@ known c = between 1 11 _ (sym (c .before .known .ensures) ∙ c .if1 .taken)
 
 -- from its start the table reaches to the next
 reaches : (c : tie.After-start2)
-    → c .start2 .result ≡ c .before .start .result + length (tableOf (c .before .before .before .before .before .args .rate))
+    → c .start2 .result ≡ c .before .start .result + length (tableOf (c .before .before .before .before .args .rate))
 reaches c =
-    let t = c .before .before .before in
-    let rate = t .before .before .args .rate in
-    let e : c .before .before .index .result - 1 ≡ rate - 1 = ap (λ (n : ℕ). n - 1) (c .before .before .index .ensures .0) in
-    let f = c .before .start .ensures ∙ ap (joinedAt tableAt) e in
-    let g = c .start2 .ensures ∙ ap (λ (n : ℕ). joinedAt tableAt (n + 1)) e in
-    omega (arith, f, g, sum-more (rate - 1) (λ i. length (tableAt i)))
+    let rate = c .before .before .before .before .args .rate in
+    omega (arith, c .before .start .ensures, c .start2 .ensures, sum-more (rate - 1) (λ i. length (tableAt i)))
 
 returns : tie.Need-returns
 unfolding lengthOf
 returns c =
-    let t = c .before .before .before in
+    let t = c .before .before in
     let k = known t in
     let rate = t .before .before .args .rate in
     let e : c .start2 .result - c .before .start .result ≡ length (tableOf rate) = omega (arith, reaches c) in
@@ -44,11 +40,10 @@ table-length-spec =
     tie.close
     (tie.spec
     (λ c κs. search needs)
-    (λ c κs. search needs)
-    (λ c. omega (arith, known (c .before), c .index .ensures))
-    (λ c κs. omega (arith, known (c .before), c .index .ensures))
+    (λ c. omega (arith, known c))
+    (λ c κs. omega (arith, known c))
     (λ c. search needs)
-    (λ c κs. omega (arith, known (c .before .before), c .before .index .ensures))
+    (λ c κs. omega (arith, known (c .before)))
     (λ c. omega (arith, reaches c))
     returns
     returns-2)

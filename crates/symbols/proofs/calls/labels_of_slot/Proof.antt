@@ -1,5 +1,5 @@
 -- `symbols::labels_of_slot`: the number decides between the slot's labels and the area as found.
-use mathlib.Core.Path.{sym, _∙_}
+use mathlib.Core.Path.{refl, sym, _∙_}
 use Prim.Native.Nat.{ℕ}
 use lib.ListN.{length, replicate, length-replicate}
 use borrow.Author.Needs.{needs}
@@ -20,17 +20,16 @@ returns c = refused _ _ _ _ (c .before .slot-number .ensures) (c .if1 .taken)
 
 label-octets-requires : tie.Need-label-octets-requires
 label-octets-requires c κs =
-    let i = c .before .before .before in
-    let a = i .before .before .before .before .before .args in
-    slot-areas (a .modulation) (a .rate) (i .index .result) (a .slot .now) (replicate slotBits 0) (a .labels .now) (ready (i .before)) (i .index .ensures .0) (length-replicate {A = ℕ} slotBits 0)
+    let e = c .before .before .before in
+    let a = e .before .before .before .before .args in
+    slot-areas (a .modulation) (a .rate) (a .modulation) (a .slot .now) (replicate slotBits 0) (a .labels .now) (ready e) refl (length-replicate {A = ℕ} slotBits 0)
 
 returns-2 : tie.Need-returns-2
 returns-2 c =
     let w = c .before .before .before in
-    let i = w .before .before .before .before in
-    let b = i .before in
+    let b = w .before .before .before .before in
     accepted _ _ _ _ (sym (b .before .slot-number .ensures) ∙ b .if1 .left)
-    (labels-left _ _ _ _ _ _ _ _ (w .label-octets .ensures) (i .index .ensures .0) (ready b .lengths .labels) (w .before .before .before .right-to-left .ensures))
+    (labels-left _ _ _ _ _ _ _ _ (w .label-octets .ensures) refl (ready b .lengths .labels) (w .before .before .before .right-to-left .ensures))
 
 pub labels-of-slot-spec : {M : Type 1} → statement M
 labels-of-slot-spec =
@@ -38,7 +37,6 @@ labels-of-slot-spec =
     (tie.spec
     (λ c κs. search needs)
     returns
-    (λ c κs. search needs)
     (λ c κs. search needs)
     (λ c. search needs)
     label-octets-requires

@@ -1,2 +1,0 @@
-pub mod PacketCalls
-pub mod PacketCallLaws

@@ -1,3 +1,0 @@
-pub mod Needs
-pub mod Places
-pub mod PlaceLaws
