@@ -151,6 +151,7 @@ typedef struct s3_slot_place {
     bool carries;
 } s3_slot_place;
 
+/* A number, and the place of the slot. */
 typedef struct s3_placed {
     uint8_t number;
     s3_slot_place place;
@@ -244,8 +245,8 @@ S3_RESULT size_t s3_packets_of(uint32_t rate);
  * Numbers: 1 (also of the text), 13, 14, 15. The plan of a refusal is all zeros. */
 S3_RESULT s3_plan_read s3_plan_of_text(const uint8_t *text, size_t text_length);
 
-/* The list of the plan that a text says: a line of column names, a line for each run of data slots and of dummies, and the
- * sums; or `refused N` alone, N the number of s3_plan_of_text. Answers how many octets of the list are written.
+/* The list of the plan that a text says: a line of column names, a line for each run of data slots and of dummies, and a line
+ * of the sums; or the line `refused N` alone, N the number of s3_plan_of_text. Answers how many octets are written.
  *   list  512 octets: the list, and what was found behind it */
 S3_RESULT size_t s3_plan_list(const uint8_t *text, size_t text_length, uint8_t list[512]);
 

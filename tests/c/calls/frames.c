@@ -7,21 +7,31 @@ static uint8_t sources[MIXED_SOURCE + 1];
 static uint16_t tables[MIXED_TABLES];
 static area frame, back, answers, stuff, positions;
 
-/* Lengths of a call's areas, all right at first. */
+/* The lengths of a call's areas. */
+enum { TABLES, SOURCE, FRAME, ANSWERS, STUFF, POSITIONS, AREAS };
 typedef struct lengths {
-    size_t tables, source, frame, answers, stuff, positions;
+    size_t of[AREAS];
 } lengths;
-static const lengths right = {MIXED_TABLES, MIXED_SOURCE, 673200, 120, 120, 120};
+static const lengths right = {{MIXED_TABLES, MIXED_SOURCE, 673200, 120, 120, 120}};
 
-static uint8_t code(uint32_t mask, uint32_t start, lengths of)
+/* Those lengths with one area's another. */
+static lengths with(lengths given, unsigned which, size_t length)
 {
-    return s3_code_frame(mixed, mask, start, tables, of.tables, sources, of.source, frame.octets, of.frame);
+    given.of[which] = length;
+    return given;
 }
 
-static uint8_t read_frame(uint32_t mask, uint32_t start, lengths of)
+static uint8_t code(uint32_t mask, uint32_t start, lengths given)
 {
-    return s3_read_frame(mixed, mask, start, tables, of.tables, frame.octets, of.frame, back.octets, of.source,
-                         answers.octets, of.answers, stuff.octets, of.stuff, numbers(positions), of.positions);
+    const size_t *const of = given.of;
+    return s3_code_frame(mixed, mask, start, tables, of[TABLES], sources, of[SOURCE], frame.octets, of[FRAME]);
+}
+
+static uint8_t read_frame(uint32_t mask, uint32_t start, lengths given)
+{
+    const size_t *const of = given.of;
+    return s3_read_frame(mixed, mask, start, tables, of[TABLES], frame.octets, of[FRAME], back.octets, of[SOURCE],
+                         answers.octets, of[ANSWERS], stuff.octets, of[STUFF], numbers(positions), of[POSITIONS]);
 }
 
 static bool all_untouched(void)
@@ -29,34 +39,29 @@ static bool all_untouched(void)
     return untouched(back) && untouched(answers) && untouched(stuff) && untouched(positions);
 }
 
-/* A wrong length comes behind the register and before the table. */
-static void wrong_length(lengths of, bool coding)
+/* A wrong length comes behind the register and before the table. Coding has the first three areas alone. */
+static void wrong_length(unsigned which, size_t length)
 {
-    lengths cut = of;
-    cut.tables--;
-    EXPECT(read_frame(MASK, START, of) == S3_REFUSED_LENGTH && read_frame(MASK, START, cut) == S3_REFUSED_LENGTH);
-    EXPECT(read_frame(0, START, of) == S3_REFUSED_REGISTER && read_frame(MASK, 0, cut) == S3_REFUSED_REGISTER);
-    if (!coding) return;
-    EXPECT(code(MASK, START, of) == S3_REFUSED_LENGTH && code(MASK, START, cut) == S3_REFUSED_LENGTH);
-    EXPECT(code(0, START, of) == S3_REFUSED_REGISTER && code(MASK, 0, cut) == S3_REFUSED_REGISTER);
+    const lengths wrong = with(right, which, length), two = with(wrong, TABLES, MIXED_TABLES - 1);
+    EXPECT(read_frame(MASK, START, wrong) == S3_REFUSED_LENGTH && read_frame(MASK, START, two) == S3_REFUSED_LENGTH);
+    EXPECT(read_frame(0, START, wrong) == S3_REFUSED_REGISTER && read_frame(MASK, 0, two) == S3_REFUSED_REGISTER);
+    if (which > FRAME) return;
+    EXPECT(code(MASK, START, wrong) == S3_REFUSED_LENGTH && code(MASK, START, two) == S3_REFUSED_LENGTH);
+    EXPECT(code(0, START, wrong) == S3_REFUSED_REGISTER && code(MASK, 0, two) == S3_REFUSED_REGISTER);
 }
 
 static void refusing(void)
 {
-    static const size_t wrong[] = {0, 1, 119, 121};
-    lengths of = right;
-    for (size_t k = 0; k < COUNT(wrong); k++) {
-        of = right, of.answers = wrong[k], wrong_length(of, false);
-        of = right, of.stuff = wrong[k], wrong_length(of, false);
-        of = right, of.positions = wrong[k], wrong_length(of, false);
+    static const size_t counts[] = {0, 1, 119, 121};
+    const lengths cut = with(right, TABLES, MIXED_TABLES - 1);
+    for (size_t k = 0; k < COUNT(counts); k++) {
+        for (unsigned which = ANSWERS; which <= POSITIONS; which++) wrong_length(which, counts[k]);
     }
-    for (size_t k = 0; k < 3; k += 2) {
-        of = right, of.source = MIXED_SOURCE - 1 + k, wrong_length(of, true);
-        of = right, of.frame = S3_FRAME_OCTETS - 1 + k, wrong_length(of, true);
+    for (size_t off = 0; off < 3; off += 2) {
+        wrong_length(SOURCE, MIXED_SOURCE - 1 + off);
+        wrong_length(FRAME, S3_FRAME_OCTETS - 1 + off);
     }
-    of = right, of.source = 0, wrong_length(of, true);
-    of = right, of.tables--;
-    EXPECT(code(MASK, START, of) == S3_REFUSED_TABLE && read_frame(MASK, START, of) == S3_REFUSED_TABLE);
+    EXPECT(code(MASK, START, cut) == S3_REFUSED_TABLE && read_frame(MASK, START, cut) == S3_REFUSED_TABLE);
     tables[471]++; /* a row's count, of the second group's table */
     EXPECT(code(MASK, START, right) == S3_REFUSED_TABLE && read_frame(MASK, START, right) == S3_REFUSED_TABLE);
     tables[471]--;

@@ -62,7 +62,8 @@ static bool refuses(s3_point_answer answer, uint32_t number)
 static uint8_t points(uint32_t modulation, uint32_t symbol, const uint8_t *labels, size_t count)
 {
     const size_t n = (size_t)1 << modulation;
-    return s3_points(modulation, symbol, labels, count, in_phase, n, quadrature, n, floats(i_out), count, floats(q_out), count);
+    return s3_points(modulation, symbol, labels, count, in_phase, n, quadrature, n, floats(i_out), count, floats(q_out),
+                     count);
 }
 
 static void put_areas(void)
@@ -169,7 +170,8 @@ static void refusing_a_point(void)
         EXPECT(refuses(arranged(no_modulations[k], 0, 1, 2, BLOCK_MASK, 1), S3_REFUSED_PLAN));
     }
     for (size_t k = 0; k < COUNT(wrong); k++) {
-        EXPECT(refuses(point(1, 2, 1, wrong[k], 2), S3_REFUSED_LENGTH) && refuses(point(1, 0, 1, 2, wrong[k]), S3_REFUSED_LENGTH));
+        EXPECT(refuses(point(1, 2, 1, wrong[k], 2), S3_REFUSED_LENGTH));
+        EXPECT(refuses(point(1, 0, 1, 2, wrong[k]), S3_REFUSED_LENGTH));
         EXPECT(refuses(arranged(1, 2, 1, wrong[k], BLOCK_MASK, 1), S3_REFUSED_LENGTH));
         EXPECT(refuses(arranged(1, 0, 1, wrong[k], BLOCK_MASK, 1), S3_REFUSED_LENGTH));
     }

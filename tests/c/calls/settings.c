@@ -12,8 +12,10 @@ static const s3_registers registers = {{0x1234567, 0x89ABCD}, {0x4321, 0x7FFF}};
 static const s3_registers no_registers = {{0, 0}, {0, 0}};
 
 /* The block of these settings and `mixed`, but for its zeros; the octets add to 1,632, which is 0x660. */
-static const uint8_t kept[46] = {'S', '3', 'P', 'L', 1, 2, 4, 7, 115, 2, 3, 5, 0, 0, 0, 0, 0, 0, 0, 0, 0, 0, 0, 0, 0,
-                                 0, 0, 0, 0, 0, 0x01, 0x23, 0x45, 0x67, 0, 0x89, 0xAB, 0xCD, 0, 0, 0x43, 0x21, 0, 0, 0x7F, 0xFF};
+static const uint8_t kept[46] = {
+    'S', '3', 'P', 'L', 1, 2, 4, 7, 115, 2, 3, 5,
+    0, 0, 0, 0, 0, 0, 0, 0, 0, 0, 0, 0, 0, 0, 0, 0, 0, 0, /* six groups that are not used */
+    0x01, 0x23, 0x45, 0x67, 0, 0x89, 0xAB, 0xCD, 0, 0, 0x43, 0x21, 0, 0, 0x7F, 0xFF};
 
 static bool is_kept(const uint8_t *block)
 {
@@ -40,7 +42,7 @@ static uint8_t replace(size_t octets, size_t number)
     return s3_replace_settings(card.octets, octets, number, mixed, registers);
 }
 
-/* Whether a block but the first and last of three is as found. */
+/* Whether all blocks but that of number 1 are as found. */
 static bool others_left(void)
 {
     return as_found(card.octets, BLOCK) && untouched_from(card, 2 * BLOCK);

@@ -1,4 +1,4 @@
-/* The three calls that take a state and hand one back: the order of their refusals, and states that come back field by field. */
+/* The three calls that take a state and hand one back: the order of their refusals, and each field of what comes back. */
 #include "samples.h"
 #include "topics.h"
 
