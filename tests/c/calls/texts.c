@@ -1,4 +1,4 @@
-/* The version, the words of numbers, plans as text and their lists. */
+/* The version, the sizes, the words of numbers, plans as text and their lists. */
 #include "samples.h"
 #include "topics.h"
 
@@ -6,6 +6,16 @@ static void version(void)
 {
     EXPECT(s3_version() == S3_VERSION);
     EXPECT(S3_VERSION == 900);
+}
+
+/* A caller declares areas by these, and the other topics have the numbers. */
+static void sizes(void)
+{
+    EXPECT(S3_GROUPS == 8 && S3_SLOTS == 120 && S3_SLOT_OCTETS == 5610 && S3_FRAME_OCTETS == 120 * 5610);
+    EXPECT(S3_HEADER_OCTETS == 22 && S3_PACKET_OCTETS == 188 && S3_MOST_SOURCE == 22 + 187 * 27 && S3_MOST_TABLE == 510);
+    EXPECT(S3_LIST_OCTETS == 512 && S3_SETTING_OCTETS == 512 && S3_MOST_SETTINGS == 64);
+    EXPECT(S3_TMCC_OCTETS == 1178 && S3_TMCC_BLOCK_OCTETS == 3960 && S3_TMCC_BLOCK_LABELS == 8 * 3960);
+    EXPECT(S3_NO_BEGIN == 65535 && S3_STUFF_ONES == 63 && S3_NO_STUFF == 255 && S3_NO_POSITION == 65535);
 }
 
 static void words(void)
@@ -133,6 +143,7 @@ static void lists_of_texts(void)
 void test_texts(void)
 {
     version();
+    sizes();
     words();
     plans_of_texts();
     lengths_of_texts();
