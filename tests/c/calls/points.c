@@ -98,6 +98,7 @@ static void points_of_all_labels(void)
                 EXPECT(gives(point(modulation, label, even[k], n, n), turned ? q ^ SIGN : i, turned ? i : q));
             }
             EXPECT(turned || gives(point(modulation, label, 0, n, n), i, q));
+            EXPECT(gives(arranged(modulation, label, 65536, n, BLOCK_MASK, 1), turned ? q ^ SIGN : i, turned ? i : q));
         }
     }
 }
@@ -277,6 +278,7 @@ static void points_of_few_labels(void)
     put_areas();
     EXPECT(points(1, UINT32_MAX, labels, 1) == S3_ACCEPTED && is_at(0, I_OF(0), Q_OF(0)) && left_from(1));
     EXPECT(points(1, UINT32_MAX - 1, labels, 1) == S3_ACCEPTED && is_at(0, Q_OF(0) ^ SIGN, I_OF(0)));
+    EXPECT(points(1, 65536, labels, 1) == S3_ACCEPTED && is_at(0, Q_OF(0) ^ SIGN, I_OF(0)));
     for (size_t k = 0; k < COUNT(in_phase); k++) {
         put(in_phase + k, SIGNALLING);
         put(quadrature + k, SIGNALLING);
