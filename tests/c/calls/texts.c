@@ -95,7 +95,8 @@ static void plans_of_texts(void)
     EXPECT(same_plan(plan_of(texts[2].text).plan, eight));
 }
 
-/* Texts that are too long, however their first 128 octets read; and a text that ends before its string does. */
+/* Texts of too many lines or octets, some of which are right in the low octet or the low 16 bits of their length; and a text
+ * that ends before its string does. */
 static void lengths_of_texts(void)
 {
     static const size_t lengths[] = {96, 97, 128, 129, 256 + 14, 65536 + 14};
