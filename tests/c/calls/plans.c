@@ -45,6 +45,9 @@ static void published_tables(void)
     EXPECT(memcmp(numbers(lent) + 471, published(3), 356 * sizeof(uint16_t)) == 0);
 }
 
+/* The place of a refusal. */
+static const s3_slot_place none = {0, 0, 0, false};
+
 static bool placed(s3_placed answer, uint32_t number, s3_slot_place place)
 {
     const s3_slot_place found = answer.place;
@@ -54,7 +57,6 @@ static bool placed(s3_placed answer, uint32_t number, s3_slot_place place)
 
 static void places(void)
 {
-    static const s3_slot_place none = {0, 0, 0, false};
     static const s3_slot_place data[] = {{0, 4, 7, true}, {1, 2, 3, true}};
     static const s3_slot_place dummy[] = {{0, 4, 7, false}, {1, 2, 3, false}};
     static const uint32_t past[] = {121, 256 + 1, 65536, 65536 + 1, 65536 + 93, (1u << 31) + 1, UINT32_MAX};
@@ -91,7 +93,6 @@ static void opening(void)
  * lengths are. A slot's number 0 comes before the plan. */
 static void refusing_plans(void)
 {
-    static const s3_slot_place none = {0, 0, 0, false};
     const area given = lend(1), octets = lend(1), answers = lend(1), stuff = lend(1), table = lend(2), positions = lend(2);
     for (size_t k = 0; k < refused_plan_count; k++) {
         const s3_plan plan = refused_plans[k].plan;
