@@ -1,10 +1,9 @@
 /* ISDB-S3 slot framer and its reader: slots, whole frames, TMCC blocks, symbols as labels and as signal points, TS packets,
  * TLV packets, plans as text, and settings on a card.
  *
- * Every call but those under "What to lend" and s3_plan_list answers a number: 0 where it is accepted, else the refusal of the
- * first test that failed; s3_word gives its word. It answers the number itself, or a struct by value in which it stands first.
- * A call tests in the order in which its numbers are listed. A refusal leaves every area as it was found; what else is in the
- * struct is then 0, or what the call says.
+ * A call that lists numbers answers one of them, or 0 where it is accepted: the refusal of the first test that failed, tested
+ * in the order of the list; s3_word gives its word. It answers the number itself, or a struct by value in which the number
+ * stands first. A refusal leaves every area as it was found; what else is in the struct is then 0, or what the call says.
  *
  * An area is a pointer and its length in elements. A pointer is aligned as its elements are, and points to as many of them as
  * the length says; where the length is 0 nothing is read or written, and the pointer may be null, as that of an empty
@@ -41,23 +40,27 @@ extern "C" {
 /* The numbers. */
 enum s3_refusal {
     S3_ACCEPTED = 0,
-    S3_REFUSED_PLAN = 1,        /* not 1 to 8 groups, slot 0, or no plan's text; without a plan, an unknown modulation or rate */
-    S3_REFUSED_DUMMY = 2,       /* a dummy where data was asked for, or a data slot at a pass */
-    S3_REFUSED_FULL = 3,        /* slot 120 is past */
-    S3_REFUSED_LENGTH = 4,      /* an area isn't exactly its length; a number of a TLV call outside its bounds; symbol 0 of BPSK */
-    S3_REFUSED_TABLE = 5,       /* a parity table breaks its form */
-    S3_REFUSED_REGISTER = 6,    /* start or register is 0 or too wide; mask is too wide or lacks the top bit */
-    S3_REFUSED_SYNC = 7,        /* a TS packet doesn't begin 0x47 */
-    S3_REFUSED_PARITY = 8,      /* a received LDPC parity bit is wrong */
-    S3_REFUSED_BCH = 9,         /* the received BCH bits are wrong */
-    S3_REFUSED_TAIL = 11,       /* one of the last two TMCC bits is 1 */
-    S3_REFUSED_LABEL = 12,      /* a label is 2^modulation or more */
-    S3_REFUSED_VALUE = 13,      /* a group's modulation or rate is unknown, or its slots are 0 or no multiple of 5 */
-    S3_REFUSED_ORDER = 14,      /* the groups do not fall */
-    S3_REFUSED_TOTAL = 15,      /* the slots of all groups do not add to 120 */
-    S3_REFUSED_PACKET = 16,     /* a TLV head is wrong, a null's body isn't all 0xFF, or a head or length runs past the packets */
-    S3_REFUSED_BLOCK = 17,      /* a card has no block of this number, or its mark, edition or sum is wrong, or a filler isn't 0 */
-    S3_REFUSED_COORDINATE = 18  /* a coordinate that is used is infinite or not a number */
+    S3_REFUSED_PLAN = 1,       /* a plan without 1 to 8 groups, slot 0, or text that is no plan's; where no plan is handed in,
+                                * an unknown modulation or rate */
+    S3_REFUSED_DUMMY = 2,      /* a dummy where data was asked for, or a data slot at a pass */
+    S3_REFUSED_FULL = 3,       /* slot 120 is past */
+    S3_REFUSED_LENGTH = 4,     /* an area isn't exactly its length, a number of a TLV call is outside its bounds, or symbol 0
+                                * of BPSK */
+    S3_REFUSED_TABLE = 5,      /* a parity table breaks its form */
+    S3_REFUSED_REGISTER = 6,   /* start or register is 0 or too wide; mask is too wide or lacks the top bit */
+    S3_REFUSED_SYNC = 7,       /* a TS packet doesn't begin 0x47 */
+    S3_REFUSED_PARITY = 8,     /* a received LDPC parity bit is wrong */
+    S3_REFUSED_BCH = 9,        /* the received BCH bits are wrong */
+    S3_REFUSED_TAIL = 11,      /* one of the last two TMCC bits is 1 */
+    S3_REFUSED_LABEL = 12,     /* a label is 2^modulation or more */
+    S3_REFUSED_VALUE = 13,     /* a group's modulation or rate is unknown, or its slots are 0 or no multiple of 5 */
+    S3_REFUSED_ORDER = 14,     /* the groups do not fall */
+    S3_REFUSED_TOTAL = 15,     /* the slots of all groups do not add to 120 */
+    S3_REFUSED_PACKET = 16,    /* a TLV head is wrong, a null's body isn't all 0xFF, or a head or length runs past the
+                                * packets */
+    S3_REFUSED_BLOCK = 17,     /* a card has no block of this number, or the block's mark, edition or sum is wrong, or a
+                                * filler in it isn't 0 */
+    S3_REFUSED_COORDINATE = 18 /* a coordinate that is used is infinite or not a number */
 };
 
 /* The word of a number; that of 0 is "accepted", and a number that no call answers has none, "unknown". */
@@ -70,12 +73,12 @@ S3_RESULT static inline const char *s3_word(uint32_t number) {
 
 /* Sizes. */
 #define S3_GROUPS ((size_t)8)                /* the most groups of a plan */
-#define S3_SLOTS ((size_t)120)               /* slots of a frame, and elements of `answers`, `stuff` and `positions` of s3_read_frame */
+#define S3_SLOTS ((size_t)120)               /* slots of a frame, and elements of the lists of s3_read_frame */
 #define S3_SLOT_OCTETS ((size_t)5610)        /* octets of a coded slot */
 #define S3_FRAME_OCTETS ((size_t)673200)     /* octets of a coded frame: slot s begins at 5,610 * (s - 1) */
 #define S3_HEADER_OCTETS ((size_t)22)        /* octets of a slot's header */
 #define S3_PACKET_OCTETS ((size_t)188)       /* octets of a TS packet */
-#define S3_MOST_SOURCE ((size_t)5071)        /* header and data octets of the largest slot, that of rate 11: no slot has more */
+#define S3_MOST_SOURCE ((size_t)5071)        /* header and data octets of the largest slot, that of rate 11 */
 #define S3_MOST_TABLE ((size_t)510)          /* numbers of the longest published parity table, that of rate 10 */
 #define S3_LIST_OCTETS ((size_t)512)         /* octets of the area of s3_plan_list */
 #define S3_TMCC_OCTETS ((size_t)1178)        /* octets of a frame's 9,422 TMCC bits and two zeros */
@@ -148,6 +151,7 @@ typedef struct s3_slot_place {
     bool carries;
 } s3_slot_place;
 
+/* A number, and the place of the slot. */
 typedef struct s3_placed {
     uint8_t number;
     s3_slot_place place;
@@ -241,8 +245,8 @@ S3_RESULT size_t s3_packets_of(uint32_t rate);
  * Numbers: 1 (also of the text), 13, 14, 15. The plan of a refusal is all zeros. */
 S3_RESULT s3_plan_read s3_plan_of_text(const uint8_t *text, size_t text_length);
 
-/* The list of the plan that a text says: a line of column names, a line for each run of data slots and of dummies, and the
- * sums; or `refused N` alone, N the number of s3_plan_of_text. Answers how many octets of the list are written.
+/* The list of the plan that a text says: a line of column names, a line for each run of data slots and of dummies, and a line
+ * of the sums; or the line `refused N` alone, N the number of s3_plan_of_text. Answers how many octets are written.
  *   list  512 octets: the list, and what was found behind it */
 S3_RESULT size_t s3_plan_list(const uint8_t *text, size_t text_length, uint8_t list[512]);
 
@@ -442,7 +446,8 @@ S3_RESULT s3_read_answer s3_tlv_read(uint32_t rate, const uint8_t *slots, size_t
 /* Reads a setting.
  *   card    512 octets for each of 0 to 64 blocks
  *   number  that of the block, from 0
- * Numbers: 4, 17, 1, 13, 14, 15 (the block's plan), 6 (its masks and starts). Plan and registers of a refusal are all zeros. */
+ * Numbers: 4, 17, 1, 13, 14, 15 (the block's plan), 6 (its masks and starts). Plan and registers of a refusal are all
+ * zeros. */
 S3_RESULT s3_settings_answer s3_read_settings(const uint8_t *card, size_t card_length, size_t number);
 
 /* Replaces a setting, whatever its block holds. The other blocks keep their octets.

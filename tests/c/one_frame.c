@@ -18,23 +18,24 @@ static void accepted(uint32_t number) {
 }
 
 int main(void) {
-    const uint8_t plan[] = {5, 10, 120}; /* modulation, rate and slots of the one group */
     const uint32_t mask = 0x1234567, start = 1;
-    const size_t entries = s3_tables_entries(plan, sizeof plan), octets = s3_source_octets(plan, sizeof plan);
-    unsigned counts[13] = {0};
-
-    for (size_t k = 0; k < octets; k++)
+    unsigned read = 0, broken = 0;
+    for (size_t k = 0; k < sizeof source; k++)
         source[k] = (uint8_t)(k % 251);
-    accepted(s3_published_tables(plan, sizeof plan, tables, entries));
-    accepted(s3_code_frame(plan, sizeof plan, mask, start, tables, entries, source, octets, frame, S3_FRAME_OCTETS));
-    frame[S3_SLOT_OCTETS] ^= 1; /* slot 2 */
-    accepted(s3_read_frame(plan, sizeof plan, mask, start, tables, entries, frame, S3_FRAME_OCTETS, back, octets, answers,
-                           S3_SLOTS, stuff, S3_SLOTS, positions, S3_SLOTS));
 
-    for (size_t k = 0; k < S3_SLOTS; k++)
-        counts[answers[k]]++;
-    printf("%u slots read, %u with wrong parity, first at position %u\n", counts[S3_ACCEPTED], counts[S3_PARITY],
-           (unsigned)positions[1]);
-    return counts[S3_ACCEPTED] != 119 || counts[S3_PARITY] != 1 || stuff[0] != S3_STUFF_ONES || stuff[1] != S3_NO_STUFF
+    const s3_plan plan = {1, {5}, {10}, {120}}; /* one group: modulation 5, rate 10, 120 slots */
+    const size_t entries = s3_tables_entries(plan), octets = s3_source_octets(plan);
+    accepted(s3_published_tables(plan, tables, entries));
+    accepted(s3_code_frame(plan, mask, start, tables, entries, source, octets, frame, S3_FRAME_OCTETS));
+    frame[S3_SLOT_OCTETS] ^= 1; /* slot 2 */
+    accepted(s3_read_frame(plan, mask, start, tables, entries, frame, S3_FRAME_OCTETS, back, octets, answers, S3_SLOTS,
+                           stuff, S3_SLOTS, positions, S3_SLOTS));
+
+    for (size_t k = 0; k < S3_SLOTS; k++) {
+        read += answers[k] == S3_ACCEPTED;
+        broken += answers[k] == S3_REFUSED_PARITY;
+    }
+    printf("%u slots read, %u with wrong parity, first at position %u\n", read, broken, (unsigned)positions[1]);
+    return read != 119 || broken != 1 || stuff[0] != S3_STUFF_ONES || stuff[1] != S3_NO_STUFF
         || positions[0] != S3_NO_POSITION;
 }
