@@ -200,19 +200,19 @@ later m symbol r h =
     or-cases (not (eqb m bpsk)) (ltb 0 symbol) h (λ a. rw a) (λ a b. rw (a, lt-ltb 0 (symbol + r) (omega (arith, ltb-true 0 symbol b))))
 
 -- what is lent is right for a later symbol too
-lent-later : (m symbol r ins quads : ℕ) {register room : Bool} → Lent m symbol ins quads register room → lentOk m (symbol + r) ins quads ≡ true
+lent-later : (m symbol r ins quads : ℕ) {room : Bool} → Lent m symbol ins quads room → lentOk m (symbol + r) ins quads ≡ true
 unfolding lentOk
 lent-later m symbol r ins quads l =
     and-both (eqb ins (2 ^ m)) _ (eq-eqb ins (2 ^ m) (l .in-phase))
     (and-both (eqb quads (2 ^ m)) _ (eq-eqb quads (2 ^ m) (l .quadrature)) (later m symbol r (l .numbered)))
 
 -- a label that is accepted
-record Taken (register : Bool) (m label symbol : ℕ) (ins quads : List Float) : Type 0 where
-  lent-right : Lent m symbol (length ins) (length quads) register true
+record Taken (m label symbol : ℕ) (ins quads : List Float) : Type 0 where
+  lent-right : Lent m symbol (length ins) (length quads) true
   label-right : ltb label (2 ^ m) ≡ true
   used-right : usedOk ins quads label ≡ true
 
-taken : (register : Bool) (m label symbol : ℕ) (ins quads : List Float) → mappedNumber register m label symbol ins quads ≡ 0 → Taken register m label symbol ins quads
+taken : (register : Bool) (m label symbol : ℕ) (ins quads : List Float) → mappedNumber register m label symbol ins quads ≡ 0 → Taken m label symbol ins quads
 unfolding mappedNumber
 taken register m label symbol ins quads h =
     let a = then-zero (lentNumber m register (lentOk m symbol (length ins) (length quads))) _ h in

@@ -1,11 +1,9 @@
 -- Document 02, N7, proved.
 use mathlib.Core.Path.{_≡_, refl}
 use mathlib.Core.Bool.{Bool, true, false}
-use mathlib.Core.Logic.{inl, inr}
 use Prim.Native.Nat.{ℕ, _+_, _<_}
-use native.Mathlib.Decide.{ℕ-discrete, decLt}
+use native.Mathlib.Decide.{decLt}
 use native.Mathlib.Omega.{arith}
-use borrow.Author.Tests.{eq-eqb, ne-eqb}
 use Rattle.plan.specs.Places.{carries, groupAt}
 use Rattle.codeword.specs.Reading.{PositionTold}
 use Rattle.slot.specs.Slots.{slotShape}

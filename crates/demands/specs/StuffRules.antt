@@ -3,7 +3,6 @@ use mathlib.Core.Path.{_≡_, refl, ap, sym, _∙_}
 use mathlib.Core.Bool.{Bool, _&&_}
 use mathlib.Core.List.{List}
 use Prim.Native.Nat.{ℕ, _+_, _*_, _/_, _^_, _<_}
-use native.Mathlib.Decide.{ℕ-discrete}
 use native.Mathlib.Omega.{arith}
 use borrow.Author.Tests.{eq-eqb, ne-eqb}
 use lib.Dec.{eqb, leb, ltb}
@@ -35,7 +34,6 @@ use Rattle.codeword.specs.RoundTrips.{coded-read}
 use Rattle.codeword.specs.Calls.{lentNumber as wordLentNumber}
 use Rattle.slot.specs.Slots.{sourceOctets, slotShape}
 use Rattle.slot.specs.SlotLaws.{sizes, fits}
-use Rattle.slot.specs.declared.SlotRead.{SlotRead}
 use Rattle.slot.specs.Reading.{receivedNumber, stuffIn, stuffWith, sourceOf, checkedNumber}
 use Rattle.slot.specs.ReadingLaws.{stuff-below}
 use Rattle.slot.specs.Calls.{rowsAt, dataNumber, slotNumber, readNumber, readAnswer, readArea, formNumber, checkNumber}

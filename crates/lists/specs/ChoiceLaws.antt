@@ -79,15 +79,7 @@ then-next a b e = rw (eq-eqb a 0 e)
 pub then-first : (a b : ℕ) → (a ≡ 0 → ⊥) → andThen a b ≡ a
 then-first a b n = rw (ne-eqb a 0 n)
 
--- where nothing behind it is refused, the first number decides
-pub then-none : (n : ℕ) → andThen n 0 ≡ n
-then-none n = go (ℕ-discrete n 0)
-  where
-    go : Dec (n ≡ 0) → andThen n 0 ≡ n
-    go (yes z) = then-next n 0 z ∙ sym z
-    go (no d) = then-first n 0 d
-
--- and it goes through what is tested behind it
+-- a refusal goes through what is tested behind it
 pub onward : (a n b : ℕ) → a ≡ n → (n ≡ 0 → ⊥) → andThen a b ≡ n
 onward a n b e h = then-first a b (λ z. h (sym e ∙ z)) ∙ e
 

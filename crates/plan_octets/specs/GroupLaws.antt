@@ -15,7 +15,6 @@ use Rattle.lists.specs.CountLaws.{getD-table, joined-same}
 use Rattle.lists.specs.Parts.{part}
 use Rattle.lists.specs.Pieces.{length-pieces, pieces-at, pieces-whole}
 use Rattle.plan.specs.declared.Plan.{Plan}
-use Rattle.plan.specs.Records.{noPlan}
 use Rattle.plan.specs.RateLaws.{between}
 use Rattle.plan.specs.Plans.{modulationOf, rateOf, slotsOf, planNumber}
 use Rattle.plan.specs.PlanLaws.{accepted, group-values, before-more, before-mono, plan-same}
@@ -53,10 +52,7 @@ pub group-unused : (p : Plan) (g : ℕ) → p .count ≤ g → groupOf p g ≡ 0
 unfolding groupOf
 group-unused p g h = rw (le-ltb g (p .count) h)
 
--- the plan of no groups fits, and so does every accepted plan
-pub none-fits : Fits noPlan
-none-fits = record { modulation = λ g h. absurd (omega arith); rate = λ g h. absurd (omega arith); slots = λ g h. absurd (omega arith) }
-
+-- every accepted plan fits
 pub accepted-fits : (p : Plan) → planNumber p ≡ 0 → Fits p
 accepted-fits p z =
     let a = accepted p z in

@@ -15,18 +15,17 @@ use Rattle.plan.specs.Rates.{modulationOk}
 use Rattle.symbols.specs.Labels.{labelNumber}
 use Rattle.symbols.specs.CallLaws.{labels-fit}
 use Rattle.points.specs.Needs.{Listed, Areas}
-use Rattle.points.specs.Numbers.{symbolOk, lentOk, lentNumber, mappedNumber, roomOk, pointsNumber}
+use Rattle.points.specs.Numbers.{symbolOk, lentOk, lentNumber, roomOk, pointsNumber}
 
 -- what is lent where the number is 0: a known modulation, both lists with an entry for each label, a symbol number, and room
-pub record Lent (m symbol ins quads : ℕ) (register room : Bool) : Type 0 where
+pub record Lent (m symbol ins quads : ℕ) (room : Bool) : Type 0 where
   pub known : modulationOk m ≡ true
-  pub sound : register ≡ true
   pub in-phase : ins ≡ 2 ^ m
   pub quadrature : quads ≡ 2 ^ m
   pub numbered : symbolOk m symbol ≡ true
   pub fits : room ≡ true
 
-pub lent : (m symbol ins quads : ℕ) (register room : Bool) → lentNumber m register (lentOk m symbol ins quads && room) ≡ 0 → Lent m symbol ins quads register room
+pub lent : (m symbol ins quads : ℕ) (register room : Bool) → lentNumber m register (lentOk m symbol ins quads && room) ≡ 0 → Lent m symbol ins quads room
 unfolding lentNumber lentOk
 lent m symbol ins quads register room h =
     let a = then-zero (pick (modulationOk m) 0 PLAN) _ h in
@@ -36,7 +35,6 @@ lent m symbol ins quads register room h =
     let n = and-right (eqb ins (2 ^ m)) _ l in
     record {
       known = not-refused (modulationOk m) PLAN (omega arith) (a .0);
-      sound = not-refused register REGISTER (omega arith) (b .0);
       in-phase = eqb-true ins (2 ^ m) (and-left (eqb ins (2 ^ m)) _ l);
       quadrature = eqb-true quads (2 ^ m) (and-left (eqb quads (2 ^ m)) _ n);
       numbered = and-right (eqb quads (2 ^ m)) _ n;
@@ -44,7 +42,7 @@ lent m symbol ins quads register room h =
     }
 
 -- a label below 2^m has an entry in both lists
-pub listed : {m symbol : ℕ} {ins quads : List Float} {register room : Bool} → Lent m symbol (length ins) (length quads) register room → (label : ℕ) → label < 2 ^ m → Listed ins quads label
+pub listed : {m symbol : ℕ} {ins quads : List Float} {room : Bool} → Lent m symbol (length ins) (length quads) room → (label : ℕ) → label < 2 ^ m → Listed ins quads label
 listed l label h = record { in-phase = omega (arith, l .in-phase); quadrature = omega (arith, l .quadrature) }
 
 -- where a call fills no area, what is lent is what counts

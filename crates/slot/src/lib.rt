@@ -4,7 +4,6 @@ mod calls;
 mod sizes;
 
 pub use answers::not_read;
-pub use calls::data_number;
 pub use calls::rows_at;
 pub use calls::slot_number;
 use plan::FrameState;

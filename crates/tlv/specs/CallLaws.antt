@@ -16,7 +16,6 @@ use Rattle.lists.specs.CountLaws.{every-at, every-all, every-not}
 use Rattle.refusal.specs.Numbers.{PLAN, LENGTH, PACKET}
 use Rattle.plan.specs.Rates.{rateOk, dataBitsOf, dataOctetsOf}
 use Rattle.plan.specs.RateLaws.{rate-rows}
-use Rattle.tlv.specs.declared.FillAnswer.{FillAnswer}
 use Rattle.tlv.specs.declared.ReadAnswer.{ReadAnswer}
 use Rattle.tlv.specs.Packets.{packetsOk}
 use Rattle.tlv.specs.Fill.{none, streamBegins, filled, report, reports, takenAfter, owedAfter}
@@ -205,25 +204,6 @@ module _ (rate : ℕ) (packets : List ℕ) (taken owed : ℕ) (slots begins : Li
   fill-done h t w area told a b c d =
       let z = eq-eqb (fillNumber rate packets taken owed slots begins) 0 (sym e ∙ h) in
       (rw z (ap₂ (λ (x y : ℕ). record { number = 0; taken = x; owed = y }) a b), (rw z c, rw z d))
-
--- the numbers of an answer one by one: n, and what is returned beside it, zeros with a refusal
-pub record FillFields (a : FillAnswer) (n t w : ℕ) : Type 0 where
-  pub number : a .number ≡ n
-  pub taken : a .taken ≡ pick (eqb n 0) t 0
-  pub owed : a .owed ≡ pick (eqb n 0) w 0
-
-pub fill-fields : (rate : ℕ) (packets : List ℕ) (taken owed : ℕ) (slots begins : List ℕ)
-    → FillFields (fillAnswer rate packets taken owed slots begins) (fillNumber rate packets taken owed slots begins)
-    (takenAfter packets taken owed (length slots)) (owedAfter packets taken owed (length slots))
-unfolding fillAnswer
-fill-fields rate packets taken owed slots begins = go (fillNumber rate packets taken owed slots begins) (eqb (fillNumber rate packets taken owed slots begins) 0) refl
-  where
-    go : (n : ℕ) (b : Bool) → eqb n 0 ≡ b
-        → FillFields
-        (pick b (record { number = 0; taken = takenAfter packets taken owed (length slots); owed = owedAfter packets taken owed (length slots) }) (record { number = n; taken = 0; owed = 0 }))
-        n (takenAfter packets taken owed (length slots)) (owedAfter packets taken owed (length slots))
-    go n true e = record { number = sym (eqb-true n 0 e); taken = rw e; owed = rw e }
-    go n false e = record { number = refl; taken = rw e; owed = rw e }
 
 -- the reports of filling are such as reading takes
 pub reports-inside : (D n : ℕ) (packets : List ℕ) (taken owed : ℕ) → allHold (placeOk D) (reports D n packets taken owed) ≡ true

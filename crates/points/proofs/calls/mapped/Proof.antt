@@ -15,7 +15,7 @@ use Rattle.points.proofs.calls.mapped.Tie as tie
 
 -- what is lent where the first number is 0
 sound : (c : tie.Else1) → let s = c .before .before .before .before .args in
-    Lent (s .modulation) (s .symbol) (length (s .in-phase .now)) (length (s .quadrature .now)) (s .register) true
+    Lent (s .modulation) (s .symbol) (length (s .in-phase .now)) (length (s .quadrature .now)) true
 sound c = lent _ _ _ _ _ _ (sym (c .before .lent-number .ensures) ∙ c .if1 .left)
 
 -- what is tested first: no area is lent to be filled, so that what is lent is all that counts

@@ -1,8 +1,6 @@
 -- `points::points_number`: what is lent, then all labels, then the entries that they use.
-use mathlib.Core.Path.{_≡_, sym, ap, _∙_}
+use mathlib.Core.Path.{_≡_, sym, _∙_}
 use mathlib.Core.Bool.{true, _&&_}
-use Prim.Native.Nat.{ℕ}
-use native.Mathlib.Omega.{arith}
 use borrow.Author.Needs.{needs}
 use borrow.Author.Tests.{leb-true}
 use lib.Dec.{leb}
@@ -22,7 +20,7 @@ first c = c .lent-number .ensures ∙ rw (c .before .room-ok .ensures)
 
 -- where it is 0
 sound : (c : tie.Else1) → let s = c .before .before .before .before .before .before .args in
-    Lent (s .modulation) (s .symbol) (length (s .in-phase .now)) (length (s .quadrature .now)) true (roomOk (length (s .labels .now)) (s .i) (s .q))
+    Lent (s .modulation) (s .symbol) (length (s .in-phase .now)) (length (s .quadrature .now)) (roomOk (length (s .labels .now)) (s .i) (s .q))
 sound c = lent _ _ _ _ _ _ (sym (first (c .before)) ∙ c .if1 .left)
 
 returns : tie.Need-returns

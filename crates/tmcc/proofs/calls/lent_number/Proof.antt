@@ -1,6 +1,5 @@
 -- `tmcc::lent_number`: the settings are tested, then what a codeword is lent.
 use mathlib.Core.Path.{_≡_, sym, ap, _∙_}
-use mathlib.Core.Bool.{Bool}
 use borrow.Author.Needs.{needs}
 use Rattle.dispersal.specs.Register.{settingsOk}
 use Rattle.plan.specs.Sizes.{blockWidth}
