@@ -17,7 +17,7 @@ pub enum SlotAnswer {
 
 impl SlotAnswer {
     fn of_numbers(number: u8, stuff: u8, position: u16) -> SlotAnswer {
-        match read_answer(number.into(), position) {
+        match read_answer(number, position) {
             Ok(()) => SlotAnswer::Read(StuffBits::of_number(stuff)),
             Err(ReadRefusal { refusal: Refusal::Dummy, .. }) => SlotAnswer::Dummy,
             Err(refused) => SlotAnswer::Refused(refused),
@@ -45,7 +45,7 @@ pub fn code_frame(
     source: &[u8],
     frame: &mut [u8],
 ) -> Result<(), Refusal> {
-    answer(calls::code_frame(plan.octets(), settings.mask, settings.start, tables, source, frame))
+    answer(calls::code_frame(plan.0, settings.mask, settings.start, tables, source, frame))
 }
 
 /// Reads a whole frame, and says what became of each slot. The lengths are those of [`code_frame`].
@@ -61,7 +61,7 @@ pub fn read_frame(
     let (mut answers, mut stuff, mut positions) = ([0; SLOTS], [0; SLOTS], [0; SLOTS]);
     let SlotSettings { mask, start } = settings;
     answer(calls::read_frame(
-        plan.octets(),
+        plan.0,
         mask,
         start,
         tables,
