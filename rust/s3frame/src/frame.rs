@@ -60,17 +60,7 @@ pub fn read_frame(
 ) -> Result<FrameRead, Refusal> {
     let (mut answers, mut stuff, mut positions) = ([0; SLOTS], [0; SLOTS], [0; SLOTS]);
     let SlotSettings { mask, start } = settings;
-    answer(calls::read_frame(
-        plan.0,
-        mask,
-        start,
-        tables,
-        frame,
-        source,
-        &mut answers,
-        &mut stuff,
-        &mut positions,
-    ))?;
+    answer(calls::read_frame(plan.0, mask, start, tables, frame, source, &mut answers, &mut stuff, &mut positions))?;
     let told = |slot: usize| SlotAnswer::of_numbers(answers[slot], stuff[slot], positions[slot]);
     Ok(FrameRead { answers: array::from_fn(told) })
 }
