@@ -55,7 +55,9 @@ safe! {
     s3_read_slot as read_slot(state: s3_state, table: &[u16], coded: &[u8], source: &mut [u8]) -> s3_slot_read;
     s3_check_parity as check_parity(rate: u32, table: &[u16], coded: &[u8]) -> s3_word_answer;
 
-    s3_code_frame as code_frame(plan: s3_plan, mask: u32, start: u32, tables: &[u16], source: &[u8], frame: &mut [u8]) -> u8;
+    s3_code_frame as code_frame(
+        plan: s3_plan, mask: u32, start: u32, tables: &[u16], source: &[u8], frame: &mut [u8]
+    ) -> u8;
     s3_read_frame as read_frame(
         plan: s3_plan, mask: u32, start: u32, tables: &[u16], frame: &[u8],
         source: &mut [u8], answers: &mut [u8], stuff: &mut [u8], positions: &mut [u16]
@@ -91,7 +93,9 @@ safe! {
     ) -> s3_read_answer;
 
     s3_read_settings as read_settings(card: &[u8], number: usize) -> s3_settings_answer;
-    s3_replace_settings as replace_settings(card: &mut [u8], number: usize, plan: s3_plan, registers: s3_registers) -> u8;
+    s3_replace_settings as replace_settings(
+        card: &mut [u8], number: usize, plan: s3_plan, registers: s3_registers
+    ) -> u8;
 
     s3_published_table as published_table(rate: u32, table: &mut [u16]) -> u8;
     s3_published_tables as published_tables(plan: s3_plan, tables: &mut [u16]) -> u8;
