@@ -17,13 +17,8 @@ pub fn refused(name: &str, text: &[u8], refusal: Refusal) -> Failure {
 /// The number of the first line that is refused by this rule, together with those behind it, so many lines in all. The library
 /// is asked: lines of a text are refused by the same rule as a text of their own.
 fn first_refused(text: &[u8], count: usize, refusal: Refusal) -> Option<usize> {
-    let lines: Vec<&[u8]> = lines(text).collect();
+    let lines: Vec<&[u8]> = text.split_inclusive(|octet| *octet == b'\n').collect();
     lines.windows(count).position(|lines| Plan::of_text(&lines.concat()) == Err(refusal)).map(|before| before + 1)
-}
-
-/// The lines of a text, each with the line feed behind it.
-fn lines(text: &[u8]) -> impl Iterator<Item = &[u8]> {
-    text.split_inclusive(|octet| *octet == b'\n')
 }
 
 /// What is wrong with the form of a text.
@@ -34,11 +29,9 @@ fn wrong_form(text: &[u8]) -> String {
     if text.len() > MOST_OCTETS {
         return format!("the text has more than {MOST_OCTETS} octets");
     }
+    let line_feeds = text.iter().filter(|octet| **octet == b'\n').count();
     match first_refused(text, 1, Refusal::Plan) {
-        // Only the last line can lack its line feed.
-        Some(line) if line == lines(text).count() && !text.ends_with(b"\n") => {
-            format!("line {line}: no line feed after it")
-        }
+        Some(line) if line > line_feeds => format!("line {line}: no line feed after it"),
         Some(line) => {
             format!("line {line}: not three numbers of 1 to 3 digits without leading zeros, one space between")
         }
@@ -95,16 +88,16 @@ mod tests {
 
     #[test]
     fn the_wrong_line_is_named() {
-        let wrong =
-            ["2 3  5\n", "2 3\n", "2 3 5 \n", "02 3 5\n", "\n", "2 3 5\r\n", "2 3 0005\n", "2 3 +5\n", "2\t3 5\n"];
+        let said_of = |line: &str, behind: &str| said(&format!("4 7 115\n{line}{behind}"), Refusal::Plan);
+        let wrong = ["2 3  5", "2 3", "2 3 5 ", "02 3 5", "", "2 3 5\r", "2 3 0005", "2 3 +5", "2\t3 5"];
         for line in wrong {
             let wrong = "line 2: not three numbers of 1 to 3 digits without leading zeros, one space between";
-            let text = format!("4 7 115\n{line}3 12\n");
-            assert_eq!(said(&text, Refusal::Plan), format!("plan: refused 1 plan: {wrong}"), "{line:?}");
+            for behind in ["\n", "\n3 12\n", "\n3 12 5"] {
+                assert_eq!(said_of(line, behind), format!("plan: refused 1 plan: {wrong}"), "{line:?}");
+            }
         }
         for line in ["2 3 5", "2 3", "x"] {
-            let text = format!("4 7 115\n{line}");
-            assert_eq!(said(&text, Refusal::Plan), "plan: refused 1 plan: line 2: no line feed after it", "{line:?}");
+            assert_eq!(said_of(line, ""), "plan: refused 1 plan: line 2: no line feed after it", "{line:?}");
         }
     }
 
