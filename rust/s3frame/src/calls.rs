@@ -1,9 +1,9 @@
 //! The calls of the archive as they stand: numbers, structs and slices in, numbers and structs out.
 //!
-//! The `unsafe` of this crate is here, in one block. The functions behind are proved for every input: they read and write
-//! within the areas that they are lent, keep none of them, and always return. A slice goes over as its pointer and then its
-//! length, so that each call below is sound for any arguments, and the compiler sees to it that no slice that is written
-//! overlaps another.
+//! Beside the tests of how the structs lie, the `unsafe` of this crate is here, in one block. The functions behind are proved
+//! for every input: they read and write within the areas that they are lent, keep none of them, and always return. A slice goes
+//! over as its pointer and then its length, so that each call below is sound for any arguments, and the compiler sees to it
+//! that no slice that is written overlaps another.
 //!
 //! What each call does and answers stands in include/s3frame.h.
 use crate::bindings::*;
