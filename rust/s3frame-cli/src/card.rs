@@ -44,7 +44,7 @@ impl Card {
     }
 
     /// What messages call a block.
-    pub fn name_of(&self, number: u32) -> String {
+    pub fn name_of(&self, number: usize) -> String {
         format!("{}: block {number}", self.name)
     }
 
@@ -60,17 +60,17 @@ impl Card {
     }
 
     /// The setting that a block keeps.
-    pub fn setting(&self, number: u32) -> Result<Settings, Failure> {
+    pub fn setting(&self, number: usize) -> Result<Settings, Failure> {
         read_settings(&self.octets, number).map_err(|refusal| self.refused(number, refusal))
     }
 
     /// Puts a setting into a block, whatever stands there.
-    pub fn replace(&mut self, number: u32, settings: &Settings) -> Result<(), Refusal> {
+    pub fn replace(&mut self, number: usize, settings: &Settings) -> Result<(), Refusal> {
         replace_settings(&mut self.octets, number, settings)
     }
 
     /// The line about a block that is refused.
-    pub fn refused(&self, number: u32, refusal: Refusal) -> Failure {
+    pub fn refused(&self, number: usize, refusal: Refusal) -> Failure {
         match refusal {
             Refusal::Block => Failure::refused(self.name_of(number), refusal, self.fault(number)),
             _ => Failure::new(self.name_of(number), refusal),
@@ -78,8 +78,8 @@ impl Card {
     }
 
     /// Which of the reasons of [`Refusal::Block`] a block has, as far as a user has to tell them apart.
-    fn fault(&self, number: u32) -> String {
-        match (self.octets.chunks(SETTING_OCTETS).nth(number as usize), self.octets.len() / SETTING_OCTETS) {
+    fn fault(&self, number: usize) -> String {
+        match (self.octets.chunks(SETTING_OCTETS).nth(number), self.octets.len() / SETTING_OCTETS) {
             (Some(octets), _) if is_empty(octets) => "it is empty: all its octets are zeros".to_string(),
             (Some(_), _) => "its mark, edition or sum is wrong, or an octet that has to be zero is not".to_string(),
             (None, 0) => "the card has no blocks".to_string(),
@@ -115,7 +115,7 @@ mod tests {
     }
 
     fn settings() -> Settings {
-        let plan = Plan::of_octets(&[4, 7, 115, 2, 3, 5]).expect("a plan of document 01");
+        let plan = Plan::of_text(b"4 7 115\n2 3 5\n").expect("a plan of document 01");
         let slots = SlotSettings { mask: 0x1234567, start: 1 };
         Settings { plan, slots, tmcc: TmccSettings { mask: 0x4001, start: 0x7FFF } }
     }
@@ -136,7 +136,7 @@ mod tests {
         for (blocks, number, fault) in [
             (0, 0, "the card has no blocks"),
             (1, 1, "the card has 1 block, number 0"),
-            (64, u32::MAX, "the card has 64 blocks, 0 to 63"),
+            (64, usize::MAX, "the card has 64 blocks, 0 to 63"),
             (2, 1, "it is empty: all its octets are zeros"),
         ] {
             assert_eq!(said(&card(blocks), number), format!("card: block {number}: refused 17 block: {fault}"));

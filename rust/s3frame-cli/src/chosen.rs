@@ -1,7 +1,7 @@
 //! The slots whose points are made: slots end to end, or the data slots of a plan's group in frames.
 use crate::failure::Failure;
 use crate::files::Files;
-use crate::frames::{places, read_plan};
+use crate::frames::{places, read_plan, PlanFile};
 use crate::number::Number;
 use crate::words::{PointWords, Slots};
 use s3frame::{Modulation, Rate, Refusal, FRAME_OCTETS, SLOT_OCTETS};
@@ -60,7 +60,7 @@ impl Chosen {
 
     /// The data slots of a group, in frames.
     fn in_frames(files: &mut Files, plan: &Path, group: Option<&Number>) -> Result<Chosen, Failure> {
-        let (plan, name) = read_plan(files, plan)?;
+        let PlanFile { plan, name, .. } = read_plan(files, plan)?;
         let groups = plan.groups().count();
         let number = match group {
             Some(number) => number.value as usize,

@@ -3,21 +3,26 @@ use crate::card::Card;
 use crate::failure::Failure;
 use crate::files::{Content, Files};
 use crate::number::Number;
-use crate::plan_text::{lines_at_fault, octets_of, MOST_OCTETS};
+use crate::plan_text::{refused, MOST_OCTETS};
 use crate::words::{Setting, SettingWords};
-use s3frame::{FrameState, Place, Plan, Rate, Refusal, Settings, SlotSettings, SLOTS};
+use s3frame::{FrameState, Place, Plan, Rate, Settings, SlotSettings, SLOTS};
 use std::path::Path;
 
-/// Reads a plan's file: the plan, and what messages call the file. One octet more than a text may have is asked for, so that
-/// a longer one is seen to be so.
-pub fn read_plan(files: &mut Files, word: &Path) -> Result<(Plan, String), Failure> {
+/// A plan's file: what messages call it, its text, and the plan that this says.
+pub struct PlanFile {
+    pub name: String,
+    pub text: Vec<u8>,
+    pub plan: Plan,
+}
+
+/// Reads a plan's file. One octet more than a text may have is asked for, so that a longer one is seen to be so.
+pub fn read_plan(files: &mut Files, word: &Path) -> Result<PlanFile, Failure> {
     let mut input = files.open(Some(word), Content::Text)?;
-    let mut text = [0; MOST_OCTETS + 1];
+    let mut text = vec![0; MOST_OCTETS + 1];
     let length = input.fill(&mut text)?;
-    let octets = octets_of(&text[..length]).map_err(|wrong| Failure::refused(input.name(), Refusal::Plan, wrong))?;
-    let refused = |refusal| Failure::new(input.name(), format!("{refusal}{}", lines_at_fault(&octets, refusal)));
-    let plan = Plan::of_octets(&octets).map_err(refused)?;
-    Ok((plan, input.name().to_string()))
+    text.truncate(length);
+    let plan = Plan::of_text(&text).map_err(|refusal| refused(input.name(), &text, refusal))?;
+    Ok(PlanFile { name: input.name().to_string(), text, plan })
 }
 
 /// Opens a frame of a plan under mask and start.
@@ -29,7 +34,7 @@ pub fn open_frame(plan: Plan, mask: &Number, start: &Number) -> Result<FrameStat
 /// The places of a plan's slots, slot 1 first.
 pub fn places(plan: &Plan) -> Vec<Place> {
     let place = |slot| plan.place(slot).expect("an accepted plan has a place for each slot");
-    (1..=SLOTS as u32).map(place).collect()
+    (1..=SLOTS as u16).map(place).collect()
 }
 
 /// How many packets the slots at these places carry.
@@ -52,7 +57,7 @@ impl Layout {
     pub fn open(files: &mut Files, words: &SettingWords) -> Result<Layout, Failure> {
         let (opened, plan_name) = match words.setting()? {
             Setting::Said { plan, mask, start } => {
-                let (plan, name) = read_plan(files, plan)?;
+                let PlanFile { plan, name, .. } = read_plan(files, plan)?;
                 (open_frame(plan, mask, start)?, name)
             }
             Setting::Kept { card, block } => {
@@ -64,7 +69,7 @@ impl Layout {
         };
         let plan = opened.plan();
         let tables = plan.groups().map(|group| group.rate.published_table()).collect();
-        Ok(Layout { places: places(plan), opened, tables, plan_name })
+        Ok(Layout { places: places(&plan), opened, tables, plan_name })
     }
 
     /// The parity table of a place.

@@ -11,7 +11,7 @@ use serde::Serialize;
 struct Group {
     modulation: u32,
     rate: u32,
-    slots: u8,
+    slots: u16,
 }
 
 /// A frame in the document.

@@ -1,12 +1,11 @@
 //! `s3frame plan`: the runs of a plan's slots, as lines and as a picture.
 use crate::failure::{Failure, Outcome};
 use crate::files::{Content, Files};
-use crate::frames::{packets, places, read_plan};
+use crate::frames::{packets, places, read_plan, PlanFile};
 use crate::outputs;
 use crate::picture;
-use crate::report::Report;
 use crate::words::PlanWords;
-use s3frame::Place;
+use s3frame::{plan_list, Place};
 
 /// Slots that follow each other at the same kind of place, numbered from 1.
 pub struct Run {
@@ -18,11 +17,12 @@ pub struct Run {
 /// Lists a plan.
 pub fn run(words: &PlanWords) -> Result<Outcome, Failure> {
     let mut files = Files::default();
-    let (plan, _) = read_plan(&mut files, &words.plan)?;
+    let PlanFile { text, plan, .. } = read_plan(&mut files, &words.plan)?;
     let picture = files.create_named(words.svg.as_deref(), Content::Text)?;
     let mut report = files.report()?;
     let places = places(&plan);
-    list(&places, &mut report)?;
+    report.lines(&plan_list(&text))?;
+    report.line(format_args!("packets {}", packets(&places)))?;
     if let Some(mut output) = picture {
         output.write(picture::of_plan(&runs(&places)).as_bytes())?;
         outputs::keep([output])?;
@@ -39,16 +39,4 @@ fn runs(places: &[Place]) -> Vec<Run> {
         }
     }
     runs
-}
-
-fn list(places: &[Place], report: &mut Report) -> Result<(), Failure> {
-    report.line(format_args!("first last mod rate kind"))?;
-    for Run { first, last, place } in runs(places) {
-        let (modulation, rate) = (place.modulation.number(), place.rate.number());
-        let kind = if place.data { "data" } else { "dummy" };
-        report.line(format_args!("{first} {last} {modulation} {rate} {kind}"))?;
-    }
-    let data = places.iter().filter(|place| place.data).count();
-    report.line(format_args!("total {data} data {} dummy", places.len() - data))?;
-    report.line(format_args!("packets {}", packets(places)))
 }

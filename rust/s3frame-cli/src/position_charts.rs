@@ -128,7 +128,7 @@ mod tests {
 
     /// Positions of a plan of 120 data slots with the longest parity.
     fn positions() -> Positions {
-        Positions::new(&places(&Plan::of_octets(&[5, 1, 120]).expect("a plan of one group")))
+        Positions::new(&places(&Plan::of_text(b"5 1 120\n").expect("a plan of one group")))
     }
 
     #[test]

@@ -44,7 +44,7 @@ mod tests {
 
     /// No positions yet, of slots 1 to 23 of rate 9/10 and slot 116 of rate 1/3; the others are dummies.
     fn positions() -> Positions {
-        Positions::new(&places(&Plan::of_octets(&[1, 11, 115, 1, 1, 5]).expect("groups that fall")))
+        Positions::new(&places(&Plan::of_text(b"1 11 115\n1 1 5\n").expect("groups that fall")))
     }
 
     #[test]

@@ -19,6 +19,11 @@ impl Report {
         Report { name: "standard error", to: Box::new(io::stderr()) }
     }
 
+    /// Writes lines that end with their line feeds.
+    pub fn lines(&mut self, lines: &[u8]) -> Result<(), Failure> {
+        self.to.write_all(lines).map_err(|error| Failure::new(self.name, error))
+    }
+
     /// Writes a line.
     pub fn line(&mut self, line: Arguments) -> Result<(), Failure> {
         writeln!(self.to, "{line}").map_err(|error| Failure::new(self.name, error))

@@ -40,7 +40,7 @@ fn list(words: &ListWords) -> Result<Outcome, Failure> {
 /// Tells a block's setting in the words that set it.
 fn show(words: &ShowWords) -> Result<Outcome, Failure> {
     let mut files = Files::default();
-    let settings = Card::open(&mut files, &words.card)?.setting(words.block.value)?;
+    let settings = Card::open(&mut files, &words.card)?.setting(words.block.value as usize)?;
     let plan = files.create_named(words.plan.as_deref(), Content::Text)?;
     let mut report = files.report()?;
     report.line(format_args!("--{}", registers_of(&settings).join(" --")))?;
@@ -59,7 +59,7 @@ fn show(words: &ShowWords) -> Result<Outcome, Failure> {
 fn set(words: &SetWords) -> Result<Outcome, Failure> {
     let mut files = Files::default();
     let settings = settings_of(&mut files, words)?;
-    let number = words.block.value;
+    let number = words.block.value as usize;
     let (mut input, mut output) = files.open_to_replace(&words.card)?;
     let mut card = Card::read(&mut input)?;
     card.replace(number, &settings).map_err(|refusal| match refusal {
@@ -80,7 +80,7 @@ fn set(words: &SetWords) -> Result<Outcome, Failure> {
 
 /// The setting that words name; the register of TMCC blocks is still to be looked at.
 fn settings_of(files: &mut Files, words: &SetWords) -> Result<Settings, Failure> {
-    let (plan, _) = read_plan(files, &words.plan)?;
+    let plan = read_plan(files, &words.plan)?.plan;
     let slots = open_frame(plan, &words.mask, &words.start)?.settings();
     let tmcc = TmccSettings { mask: words.tmcc_mask.value, start: words.tmcc_start.value };
     Ok(Settings { plan, slots, tmcc })

@@ -38,7 +38,7 @@ impl TlvSupply {
 
     /// How many octets of the packets are in no slot yet.
     fn waiting(&self) -> usize {
-        self.input.packets().len() - self.filled.taken as usize
+        self.input.packets().len() - self.filled.taken
     }
 
     /// Fills the slots of a frame, and writes their reports.

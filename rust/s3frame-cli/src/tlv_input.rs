@@ -61,10 +61,10 @@ impl TlvInput {
     }
 
     /// Lets go of the packets that lie wholly in the first octets, and says how many of these octets they had.
-    pub fn let_go(&mut self, octets: u64) -> u64 {
+    pub fn let_go(&mut self, octets: usize) -> usize {
         let mut gone = 0;
         for packet in each(&self.packets) {
-            if (gone + packet.len()) as u64 > octets {
+            if gone + packet.len() > octets {
                 break;
             }
             gone += packet.len();
@@ -72,7 +72,7 @@ impl TlvInput {
         }
         self.packets.drain(..gone);
         self.gone_octets += gone as u64;
-        gone as u64
+        gone
     }
 
     /// What to say where packets were refused: which is the first that is refused alone, and why.

@@ -87,7 +87,7 @@ pub struct SettingWords {
 #[derive(Debug)]
 pub enum Setting<'a> {
     Said { plan: &'a Path, mask: &'a Number, start: &'a Number },
-    Kept { card: &'a Path, block: u32 },
+    Kept { card: &'a Path, block: usize },
 }
 
 impl SettingWords {
@@ -96,7 +96,7 @@ impl SettingWords {
         let SettingWords { plan, mask, start, settings, block } = self;
         match (plan, mask, start, settings, block) {
             (Some(plan), Some(mask), Some(start), None, None) => Ok(Setting::Said { plan, mask, start }),
-            (None, None, None, Some(card), Some(block)) => Ok(Setting::Kept { card, block: block.value }),
+            (None, None, None, Some(card), Some(block)) => Ok(Setting::Kept { card, block: block.value as usize }),
             _ => Err(Failure::new("settings", "name either --plan, --mask and --start, or --settings and --block")),
         }
     }

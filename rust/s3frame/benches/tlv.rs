@@ -49,15 +49,13 @@ fn read(areas: &mut Areas) {
 }
 
 fn plain_fill(packets: &[u8], areas: &mut Areas) {
-    let number = tlv::fill(RATE as usize, packets, 0, 0, &mut areas.slots, &mut areas.begins, &mut [0; 2]);
-    assert_eq!(number, 0, "packets and slots");
+    tlv::fill(RATE as usize, packets, 0, 0, &mut areas.slots, &mut areas.begins).expect("packets and slots");
 }
 
 fn plain_read(areas: &mut Areas) {
     let lost = [0; SLOTS];
     let first = s3frame::NO_BEGIN.into();
-    let number = tlv::read(RATE as usize, &areas.slots, &areas.begins, &lost, first, &mut areas.back, &mut [0; 2]);
-    assert_eq!(number, 0, "slots and reports");
+    tlv::read(RATE as usize, &areas.slots, &areas.begins, &lost, first, &mut areas.back).expect("slots and reports");
 }
 
 fn main() {

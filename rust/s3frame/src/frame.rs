@@ -17,7 +17,7 @@ pub enum SlotAnswer {
 
 impl SlotAnswer {
     fn of_numbers(number: u8, stuff: u8, position: u16) -> SlotAnswer {
-        match read_answer(number.into(), position) {
+        match read_answer(number, position) {
             Ok(()) => SlotAnswer::Read(StuffBits::of_number(stuff)),
             Err(ReadRefusal { refusal: Refusal::Dummy, .. }) => SlotAnswer::Dummy,
             Err(refused) => SlotAnswer::Refused(refused),
@@ -45,7 +45,7 @@ pub fn code_frame(
     source: &[u8],
     frame: &mut [u8],
 ) -> Result<(), Refusal> {
-    answer(calls::code_frame(plan.octets(), settings.mask, settings.start, tables, source, frame))
+    answer(calls::code_frame(plan.0, settings.mask, settings.start, tables, source, frame))
 }
 
 /// Reads a whole frame, and says what became of each slot. The lengths are those of [`code_frame`].
@@ -60,17 +60,7 @@ pub fn read_frame(
 ) -> Result<FrameRead, Refusal> {
     let (mut answers, mut stuff, mut positions) = ([0; SLOTS], [0; SLOTS], [0; SLOTS]);
     let SlotSettings { mask, start } = settings;
-    answer(calls::read_frame(
-        plan.octets(),
-        mask,
-        start,
-        tables,
-        frame,
-        source,
-        &mut answers,
-        &mut stuff,
-        &mut positions,
-    ))?;
+    answer(calls::read_frame(plan.0, mask, start, tables, frame, source, &mut answers, &mut stuff, &mut positions))?;
     let told = |slot: usize| SlotAnswer::of_numbers(answers[slot], stuff[slot], positions[slot]);
     Ok(FrameRead { answers: array::from_fn(told) })
 }

@@ -1,5 +1,7 @@
-//! The exact lengths of lent areas that depend on no rate.
+//! The exact lengths of lent areas that depend on no rate, as the header has them.
 
+/// The most groups of a plan.
+pub const MOST_GROUPS: usize = 8;
 /// The slots of a frame.
 pub const SLOTS: usize = 120;
 /// The octets of a slot.
@@ -20,6 +22,8 @@ pub const BLOCK_LABELS: usize = 8 * BLOCK_OCTETS;
 pub const MOST_TABLE: usize = 510;
 /// The most header and data octets of a slot.
 pub const MOST_SOURCE: usize = 5_071;
+/// The octets of an area that has room for the list of any plan.
+pub(crate) const LIST_OCTETS: usize = 512;
 /// The octets of a setting on a card.
 pub const SETTING_OCTETS: usize = 512;
 /// The most settings of a card.
@@ -30,9 +34,32 @@ mod tests {
     use super::*;
     use crate::Rate;
 
+    /// The name and the number of a size that a line of the header defines.
+    fn size(line: &'static str) -> Option<(&'static str, usize)> {
+        let (name, number) = line.strip_prefix("#define S3_")?.split_once(" ((size_t)")?;
+        Some((name, number.split_once(')')?.0.parse().expect("a number")))
+    }
+
     #[test]
-    fn lengths_of_document_01() {
-        assert_eq!([FRAME_OCTETS, BLOCK_LABELS], [673_200, 31_680]);
+    fn the_sizes_of_the_header() {
+        let header = include_str!("../../../include/s3frame.h");
+        let sizes = [
+            ("GROUPS", MOST_GROUPS),
+            ("SLOTS", SLOTS),
+            ("SLOT_OCTETS", SLOT_OCTETS),
+            ("FRAME_OCTETS", FRAME_OCTETS),
+            ("HEADER_OCTETS", HEADER_OCTETS),
+            ("PACKET_OCTETS", PACKET_OCTETS),
+            ("MOST_SOURCE", MOST_SOURCE),
+            ("MOST_TABLE", MOST_TABLE),
+            ("LIST_OCTETS", LIST_OCTETS),
+            ("TMCC_OCTETS", TMCC_OCTETS),
+            ("TMCC_BLOCK_OCTETS", BLOCK_OCTETS),
+            ("TMCC_BLOCK_LABELS", BLOCK_LABELS),
+            ("SETTING_OCTETS", SETTING_OCTETS),
+            ("MOST_SETTINGS", MOST_SETTINGS),
+        ];
+        assert_eq!(header.lines().filter_map(size).collect::<Vec<_>>(), sizes);
     }
 
     #[test]

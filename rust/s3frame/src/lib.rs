@@ -34,6 +34,8 @@
 #![deny(unsafe_code)]
 #![warn(missing_docs)]
 
+#[allow(dead_code, non_camel_case_types, unsafe_code)] // the layout tests look into structs
+mod bindings;
 #[allow(unsafe_code)]
 mod calls;
 mod frame;
@@ -52,15 +54,16 @@ mod stuff;
 mod symbols;
 mod tlv;
 mod tmcc;
+mod version;
 
 pub use frame::{code_frame, read_frame, FrameRead, SlotAnswer};
 pub use lengths::{
-    BLOCK_LABELS, BLOCK_OCTETS, FRAME_OCTETS, HEADER_OCTETS, MOST_SETTINGS, MOST_SOURCE, MOST_TABLE, PACKET_OCTETS,
-    SETTING_OCTETS, SLOTS, SLOT_OCTETS, TMCC_OCTETS,
+    BLOCK_LABELS, BLOCK_OCTETS, FRAME_OCTETS, HEADER_OCTETS, MOST_GROUPS, MOST_SETTINGS, MOST_SOURCE, MOST_TABLE,
+    PACKET_OCTETS, SETTING_OCTETS, SLOTS, SLOT_OCTETS, TMCC_OCTETS,
 };
 pub use modulation::Modulation;
 pub use packets::{pack, unpack};
-pub use plan::{Group, Place, Plan};
+pub use plan::{plan_list, Group, Place, Plan};
 pub use points::{ArrangedRegister, Constellation, Point};
 pub use rate::Rate;
 pub use read_refusal::ReadRefusal;
@@ -71,3 +74,4 @@ pub use stuff::StuffBits;
 pub use symbols::{labels, slot_of_labels, tmcc_labels, tmcc_of_labels};
 pub use tlv::{fill_tlv, read_tlv, TlvFilled, TlvRead, NO_BEGIN};
 pub use tmcc::{code_tmcc, read_tmcc, TmccSettings};
+pub use version::{version, VERSION};

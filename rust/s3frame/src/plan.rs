@@ -1,9 +1,8 @@
 //! The slot plan of a frame.
+use crate::bindings::s3_plan;
+use crate::lengths::LIST_OCTETS;
 use crate::refusal::answer;
 use crate::{calls, Modulation, Rate, Refusal};
-
-/// The most octets of a plan: eight groups.
-pub(crate) const MOST_OCTETS: usize = 24;
 
 /// Slots of a frame for one modulation and rate, dummies included.
 #[derive(Clone, Copy, Debug, PartialEq, Eq, Hash)]
@@ -13,7 +12,7 @@ pub struct Group {
     /// The rate of its slots.
     pub rate: Rate,
     /// A positive multiple of 5.
-    pub slots: u8,
+    pub slots: u16,
 }
 
 /// What a slot of a plan is.
@@ -30,11 +29,10 @@ pub struct Place {
 }
 
 /// An accepted plan: 1 to 8 groups, higher modulation first, then higher rate, whose slots add to 120.
+///
+/// What stands behind the groups in use is zeros, so that plans are equal where their groups are.
 #[derive(Clone, Copy, Debug, PartialEq, Eq, Hash)]
-pub struct Plan {
-    octets: [u8; MOST_OCTETS],
-    length: usize,
-}
+pub struct Plan(pub(crate) s3_plan);
 
 impl Plan {
     /// The plan of these groups.
@@ -42,67 +40,83 @@ impl Plan {
     /// Refused, by the first rule that is broken: [`Refusal::Plan`] (no groups, or more than 8), [`Refusal::Value`],
     /// [`Refusal::Order`], [`Refusal::Total`].
     pub fn new(groups: &[Group]) -> Result<Plan, Refusal> {
-        let three = |group: &Group| [group.modulation as u8, group.rate as u8, group.slots];
-        Plan::of_octets(&groups.iter().flat_map(three).collect::<Vec<u8>>())
-    }
-
-    /// The plan of three octets for each group: modulation, rate and slots. Any octets may be given: the library decides.
-    ///
-    /// Refused as [`Plan::new`] is; octets that end within a group are [`Refusal::Plan`].
-    pub fn of_octets(octets: &[u8]) -> Result<Plan, Refusal> {
+        // Any count above 8 is refused as such.
+        let mut plan = s3_plan { count: groups.len().try_into().unwrap_or(u16::MAX), ..s3_plan::default() };
+        for (place, group) in (0..plan.slots.len()).zip(groups) {
+            plan.modulation[place] = group.modulation as u16;
+            plan.rate[place] = group.rate as u16;
+            plan.slots[place] = group.slots;
+        }
         // Every accepted plan has a slot 1, so that asking for its place asks of the plan alone.
-        place(octets, 1)?;
-        let mut plan = Plan { octets: [0; MOST_OCTETS], length: octets.len() };
-        plan.octets[..octets.len()].copy_from_slice(octets);
-        Ok(plan)
+        answer(calls::place(plan, 1).number).map(|()| Plan(plan))
     }
 
-    /// The plan as it is lent to the calls: modulation, rate and slots for each group.
-    pub fn octets(&self) -> &[u8] {
-        &self.octets[..self.length]
+    /// The plan that a text says: for each group a line of modulation, rate and slots, 1 to 3 digits each without a leading
+    /// zero, one space between them and a line feed behind them; 128 octets at most.
+    ///
+    /// Refused as [`Plan::new`] is; a text of another form is [`Refusal::Plan`].
+    ///
+    /// ```
+    /// use s3frame::{Group, Modulation, Plan, Rate, Refusal};
+    ///
+    /// let groups = [
+    ///     Group { modulation: Modulation::Apsk16, rate: Rate::R7_9, slots: 115 },
+    ///     Group { modulation: Modulation::Qpsk, rate: Rate::R1_2, slots: 5 },
+    /// ];
+    /// assert_eq!(Plan::of_text(b"4 7 115\n2 3 5\n"), Plan::new(&groups));
+    /// assert_eq!(Plan::of_text(b"4 7 115\n"), Err(Refusal::Total));
+    /// ```
+    pub fn of_text(text: &[u8]) -> Result<Plan, Refusal> {
+        let read = calls::plan_of_text(text);
+        answer(read.number).map(|()| Plan(read.plan))
     }
 
     /// The groups in their order.
-    pub fn groups(&self) -> impl Iterator<Item = Group> + '_ {
-        let group = |three: &[u8]| Group {
-            modulation: modulation(three[0].into()),
-            rate: rate(three[1].into()),
-            slots: three[2],
-        };
-        self.octets().chunks_exact(3).map(group)
+    pub fn groups(&self) -> impl Iterator<Item = Group> {
+        let s3_plan { count, modulation: modulations, rate: rates, slots } = self.0;
+        (0..count.into()).map(move |group: usize| Group {
+            modulation: modulation(modulations[group].into()),
+            rate: rate(rates[group].into()),
+            slots: slots[group],
+        })
     }
 
     /// What a slot, counted from 1, is.
     ///
     /// Refused: [`Refusal::Plan`] (slot number 0), [`Refusal::Full`] (above 120).
-    pub fn place(&self, slot: u32) -> Result<Place, Refusal> {
-        place(self.octets(), slot)
+    pub fn place(&self, slot: u16) -> Result<Place, Refusal> {
+        let placed = calls::place(self.0, slot.into());
+        answer(placed.number)?;
+        let place = placed.place;
+        let (modulation, rate) = (modulation(place.modulation), rate(place.rate));
+        Ok(Place { group: place.group, modulation, rate, data: place.carries })
     }
 
     /// The octets of header and data of all data slots, which lie end to end in the source of a whole frame.
     pub fn source_octets(&self) -> usize {
-        calls::source_octets(self.octets()) as usize
+        calls::source_octets(self.0)
     }
 
     /// The entries of the groups' published parity tables.
     pub fn tables_entries(&self) -> usize {
-        calls::tables_entries(self.octets()) as usize
+        calls::tables_entries(self.0)
     }
 
     /// The published parity tables of the groups, in group order, as whole-frame calls take them.
     pub fn published_tables(&self) -> Vec<u16> {
         let mut tables = vec![0; self.tables_entries()];
-        answer(calls::published_tables(self.octets(), &mut tables))
-            .expect("an accepted plan, and an area of its tables");
+        answer(calls::published_tables(self.0, &mut tables)).expect("an accepted plan, and an area of its tables");
         tables
     }
 }
 
-fn place(plan: &[u8], slot: u32) -> Result<Place, Refusal> {
-    let mut numbers = [0; 4];
-    answer(calls::place(plan, slot, &mut numbers))?;
-    let [group, of_modulation, of_rate, data] = numbers;
-    Ok(Place { group: group as usize, modulation: modulation(of_modulation), rate: rate(of_rate), data: data == 1 })
+/// The list of the plan that a text says, as octets: a line of column names; for each run of data slots and of dummies its
+/// first and last slot, modulation, rate and kind; and the sums. Where [`Plan::of_text`] refuses the text, it is the line
+/// `refused` with the refusal's number, alone.
+pub fn plan_list(text: &[u8]) -> Vec<u8> {
+    let mut list = [0; LIST_OCTETS];
+    let written = calls::plan_list(text, &mut list);
+    list[..written].to_vec()
 }
 
 fn modulation(number: u32) -> Modulation {
@@ -125,8 +139,7 @@ mod tests {
     #[test]
     fn a_plan_keeps_its_groups() {
         let plan = Plan::new(&WORKED).expect("a plan of document 01");
-        assert_eq!(plan.octets(), [4, 7, 115, 2, 3, 5]);
-        assert_eq!(Plan::of_octets(plan.octets()), Ok(plan));
+        assert_eq!(Plan::of_text(b"4 7 115\n2 3 5\n"), Ok(plan));
         assert!(plan.groups().eq(WORKED));
         assert_eq!(plan.source_octets(), 92 * (22 + 23 * 187) + 2 * (22 + 15 * 187));
         assert_eq!([plan.tables_entries(), plan.published_tables().len()], [471 + 356; 2]);
@@ -148,12 +161,28 @@ mod tests {
         ] {
             assert_eq!(Plan::new(groups), Err(refusal));
         }
-        for octets in [&[5, 11][..], &[5, 11, 120, 0], &[0; 27]] {
-            assert_eq!(Plan::of_octets(octets), Err(Refusal::Plan));
+        assert_eq!(Plan::new(&vec![WORKED[0]; 65_536 + 1]), Err(Refusal::Plan));
+        for text in ["", "5 11\n", "5 11 120", "5 11 0120\n", "5 11 120\n\n"] {
+            assert_eq!(Plan::of_text(text.as_bytes()), Err(Refusal::Plan), "{text:?}");
         }
-        for octets in [[6, 11, 120], [5, 12, 120], [0; 3]] {
-            assert_eq!(Plan::of_octets(&octets), Err(Refusal::Value));
+        for text in ["6 11 120\n", "5 12 120\n", "0 0 0\n"] {
+            assert_eq!(Plan::of_text(text.as_bytes()), Err(Refusal::Value), "{text:?}");
         }
+    }
+
+    #[test]
+    fn the_list_of_document_01() {
+        let lines = [
+            "first last mod rate kind",
+            "1 92 4 7 data",
+            "93 115 4 7 dummy",
+            "116 117 2 3 data",
+            "118 120 2 3 dummy",
+            "total 94 data 26 dummy",
+        ];
+        assert_eq!(plan_list(b"4 7 115\n2 3 5\n"), format!("{}\n", lines.join("\n")).as_bytes());
+        assert_eq!(plan_list(b"4 7 115\n"), b"refused 15\n");
+        assert_eq!(plan_list(b""), b"refused 1\n");
     }
 
     #[test]

@@ -1,4 +1,5 @@
 //! Signal points of labels.
+use crate::bindings::s3_point_answer;
 use crate::refusal::answer;
 use crate::{calls, Modulation, Refusal};
 
@@ -31,6 +32,13 @@ pub struct ArrangedRegister {
     pub register: u32,
 }
 
+impl Point {
+    /// The point that a call answers, or its refusal.
+    fn of_answer(told: s3_point_answer) -> Result<Point, Refusal> {
+        answer(told.number).map(|()| Point { i: told.i, q: told.q })
+    }
+}
+
 impl Constellation<'_> {
     /// The point of a label. With BPSK `symbol` is the symbol's number in the frame, from 1 on, and the points of even symbols
     /// are turned by 90 degrees anticlockwise; with other modulations it does not count.
@@ -49,9 +57,7 @@ impl Constellation<'_> {
     /// ```
     pub fn point(self, label: u8, symbol: u32) -> Result<Point, Refusal> {
         let Constellation { modulation, in_phase, quadrature } = self;
-        let mut point = [0.0; 2];
-        answer(calls::point(modulation.number(), label.into(), symbol, in_phase, quadrature, &mut point))?;
-        Ok(Point { i: point[0], q: point[1] })
+        Point::of_answer(calls::point(modulation.number(), label.into(), symbol, in_phase, quadrature))
     }
 
     /// The point of a label in the signal point arrangement signal: that of [`Constellation::point`], turned by 180 degrees
@@ -62,9 +68,7 @@ impl Constellation<'_> {
         let Constellation { modulation, in_phase, quadrature } = self;
         let ArrangedRegister { mask, register } = at;
         let (number, label) = (modulation.number(), label.into());
-        let mut point = [0.0; 2];
-        answer(calls::arranged_point(number, label, symbol, in_phase, quadrature, mask, register, &mut point))?;
-        Ok(Point { i: point[0], q: point[1] })
+        Point::of_answer(calls::arranged_point(number, label, symbol, in_phase, quadrature, mask, register))
     }
 
     /// The points of labels, one octet each, as in-phase and quadrature coordinates, as many of each as labels. `symbol` is
@@ -83,8 +87,7 @@ impl ArrangedRegister {
     ///
     /// Refused: [`Refusal::Register`].
     pub fn arranged_step(self) -> Result<ArrangedRegister, Refusal> {
-        let mut next = [0];
-        answer(calls::arranged_step(self.mask, self.register, &mut next))?;
-        Ok(ArrangedRegister { mask: self.mask, register: next[0] })
+        let stepped = calls::arranged_step(self.mask, self.register);
+        answer(stepped.number).map(|()| ArrangedRegister { mask: self.mask, register: stepped.register_ })
     }
 }

@@ -28,7 +28,7 @@ const STUFF_BITS: usize = 6;
 impl Rate {
     /// How many TS packets a slot carries.
     pub fn packets(self) -> usize {
-        calls::packets_of(self.number()) as usize
+        calls::packets_of(self.number())
     }
 
     /// The octets of a slot's packets.
@@ -53,7 +53,7 @@ impl Rate {
 
     /// The entries of the published parity table.
     pub fn table_entries(self) -> usize {
-        calls::table_entries(self.number()) as usize
+        calls::table_entries(self.number())
     }
 
     /// The published parity table.

@@ -1,4 +1,5 @@
 //! Why something received was not read, and where its parity broke.
+use crate::bindings::{s3_word_answer, S3_NO_POSITION};
 use crate::refusal::answer;
 use crate::Refusal;
 use std::error::Error;
@@ -16,13 +17,18 @@ pub struct ReadRefusal {
 }
 
 /// What a call says for a position where its answer isn't [`Refusal::Parity`].
-const NO_POSITION: u16 = 65535;
+const NO_POSITION: u16 = S3_NO_POSITION as u16;
 
 /// The result of a reading call's number and position.
-pub(crate) fn read_answer(number: u32, position: u16) -> Result<(), ReadRefusal> {
-    debug_assert_eq!(position == NO_POSITION, number != Refusal::Parity.number(), "the contracts of the calls");
+pub(crate) fn read_answer(number: u8, position: u16) -> Result<(), ReadRefusal> {
+    debug_assert_eq!(position == NO_POSITION, number != Refusal::Parity as u8, "the contracts of the calls");
     let position = Some(position).filter(|&position| position != NO_POSITION);
     answer(number).map_err(|refusal| ReadRefusal { refusal, position })
+}
+
+/// That of a call which answers both and no more.
+pub(crate) fn word_answer(told: s3_word_answer) -> Result<(), ReadRefusal> {
+    read_answer(told.number, told.position)
 }
 
 /// As [`Refusal`] is printed, and the position where there is one.
@@ -55,7 +61,7 @@ mod tests {
             assert_eq!(read_answer(8, position), Err(refused));
         }
         for refusal in Refusal::ALL.into_iter().filter(|&refusal| refusal != Refusal::Parity) {
-            assert_eq!(read_answer(refusal.number(), 65535), Err(ReadRefusal { refusal, position: None }));
+            assert_eq!(read_answer(refusal as u8, 65535), Err(ReadRefusal { refusal, position: None }));
         }
     }
 

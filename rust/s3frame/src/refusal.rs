@@ -62,16 +62,17 @@ impl fmt::Display for Refusal {
 impl Error for Refusal {}
 
 /// The result of a call's number. The contracts of the calls allow no other numbers.
-pub(crate) fn answer(number: u32) -> Result<(), Refusal> {
+pub(crate) fn answer(number: u8) -> Result<(), Refusal> {
     match number {
         0 => Ok(()),
-        _ => Err(Refusal::from_number(number).expect("a refusal's number")),
+        _ => Err(Refusal::from_number(number.into()).expect("a refusal's number")),
     }
 }
 
 #[cfg(test)]
 mod tests {
     use super::*;
+    use crate::bindings::*;
 
     #[test]
     fn the_numbers_and_words_of_the_documents() {
@@ -82,10 +83,35 @@ mod tests {
         for (number, word) in words {
             let refusal = Refusal::from_number(number).expect("a refusal");
             assert_eq!((refusal.number(), refusal.word()), (number, word));
-            assert_eq!(answer(number), Err(refusal));
+            assert_eq!(answer(number as u8), Err(refusal));
         }
         assert_eq!([0, 10, 19].map(Refusal::from_number), [None; 3]);
         assert_eq!(answer(0), Ok(()));
+    }
+
+    #[test]
+    fn the_numbers_of_the_header() {
+        let numbers = [
+            S3_REFUSED_PLAN,
+            S3_REFUSED_DUMMY,
+            S3_REFUSED_FULL,
+            S3_REFUSED_LENGTH,
+            S3_REFUSED_TABLE,
+            S3_REFUSED_REGISTER,
+            S3_REFUSED_SYNC,
+            S3_REFUSED_PARITY,
+            S3_REFUSED_BCH,
+            S3_REFUSED_TAIL,
+            S3_REFUSED_LABEL,
+            S3_REFUSED_VALUE,
+            S3_REFUSED_ORDER,
+            S3_REFUSED_TOTAL,
+            S3_REFUSED_PACKET,
+            S3_REFUSED_BLOCK,
+            S3_REFUSED_COORDINATE,
+        ];
+        assert_eq!(Refusal::ALL.map(Refusal::number), numbers);
+        assert_eq!(answer(S3_ACCEPTED as u8), Ok(()));
     }
 
     #[test]

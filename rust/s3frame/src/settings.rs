@@ -1,5 +1,5 @@
 //! Settings that a card keeps in blocks.
-use crate::plan::MOST_OCTETS;
+use crate::bindings::{s3_register, s3_registers};
 use crate::refusal::answer;
 use crate::{calls, Plan, Refusal, SlotSettings, TmccSettings};
 
@@ -37,14 +37,14 @@ pub struct Settings {
 /// # Ok(())
 /// # }
 /// ```
-pub fn read_settings(card: &[u8], number: u32) -> Result<Settings, Refusal> {
-    let (mut plan, mut settings) = ([0; MOST_OCTETS], [0; 5]);
-    answer(calls::read_settings(card, number, &mut plan, &mut settings))?;
-    let [groups, slot_mask, slot_start, tmcc_mask, tmcc_start] = settings;
+pub fn read_settings(card: &[u8], number: usize) -> Result<Settings, Refusal> {
+    let told = calls::read_settings(card, number);
+    answer(told.number)?;
+    let s3_registers { slots, tmcc } = told.registers;
     Ok(Settings {
-        plan: Plan::of_octets(&plan[..3 * groups as usize]).expect("the plan of a block that is accepted"),
-        slots: SlotSettings { mask: slot_mask, start: slot_start },
-        tmcc: TmccSettings { mask: tmcc_mask, start: tmcc_start },
+        plan: Plan(told.plan),
+        slots: SlotSettings { mask: slots.mask, start: slots.start },
+        tmcc: TmccSettings { mask: tmcc.mask, start: tmcc.start },
     })
 }
 
@@ -52,8 +52,11 @@ pub fn read_settings(card: &[u8], number: u32) -> Result<Settings, Refusal> {
 ///
 /// Refused: [`Refusal::Length`], [`Refusal::Block`] (the card has no such block), [`Refusal::Register`]; `card` is then as it
 /// was.
-pub fn replace_settings(card: &mut [u8], number: u32, settings: &Settings) -> Result<(), Refusal> {
+pub fn replace_settings(card: &mut [u8], number: usize, settings: &Settings) -> Result<(), Refusal> {
     let Settings { plan, slots, tmcc } = settings;
-    let registers = [slots.mask, slots.start, tmcc.mask, tmcc.start];
-    answer(calls::replace_settings(card, number, plan.octets(), &registers))
+    let registers = s3_registers {
+        slots: s3_register { mask: slots.mask, start: slots.start },
+        tmcc: s3_register { mask: tmcc.mask, start: tmcc.start },
+    };
+    answer(calls::replace_settings(card, number, plan.0, registers))
 }

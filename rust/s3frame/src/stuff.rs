@@ -1,4 +1,5 @@
 //! The stuff bits of a slot.
+use crate::bindings::S3_STUFF_ONES;
 
 /// The six bits between BCH bits and parity of a slot that was read. Coding sends ones; a received slot may have any.
 #[derive(Clone, Copy, Debug, PartialEq, Eq, Hash, PartialOrd, Ord)]
@@ -6,7 +7,7 @@ pub struct StuffBits(u8);
 
 impl StuffBits {
     /// Six ones.
-    pub const ONES: StuffBits = StuffBits(63);
+    pub const ONES: StuffBits = StuffBits(S3_STUFF_ONES as u8);
 
     /// Those of an accepted slot, from the number of a call.
     pub(crate) fn of_number(number: u8) -> StuffBits {

@@ -1,17 +1,18 @@
 //! TLV packets in the data octets of slots.
+use crate::bindings::S3_NO_BEGIN;
 use crate::refusal::answer;
 use crate::{calls, Rate, Refusal};
 
 /// The report of a slot in which no packet and no filler begins.
-pub const NO_BEGIN: u16 = 65_535;
+pub const NO_BEGIN: u16 = S3_NO_BEGIN as u16;
 
 /// How far filling has come; the default is the beginning.
 #[derive(Clone, Copy, Debug, Default, PartialEq, Eq)]
 pub struct TlvFilled {
     /// How many octets of the packets are in slots already.
-    pub taken: u64,
+    pub taken: usize,
     /// How many octets of a filler that the last slot cut are still to come, 0 to 3.
-    pub owed: u32,
+    pub owed: usize,
 }
 
 /// What reading gives beside the packets.
@@ -67,9 +68,8 @@ pub fn fill_tlv(
     slots: &mut [u8],
     begins: &mut [u16],
 ) -> Result<TlvFilled, Refusal> {
-    let mut next = [0; 2];
-    answer(calls::tlv_fill(rate.number(), packets, from.taken, from.owed, slots, begins, &mut next))?;
-    Ok(TlvFilled { taken: next[0], owed: next[1] as u32 })
+    let filled = calls::tlv_fill(rate.number(), packets, from.taken, from.owed, slots, begins);
+    answer(filled.number).map(|()| TlvFilled { taken: filled.taken, owed: filled.owed })
 }
 
 /// Reads the packets of slots that [`fill_tlv`] filled, in their order, whole ones only and without empty null packets; the
@@ -97,8 +97,7 @@ pub fn read_tlv(
 ) -> Result<TlvRead, Refusal> {
     let lost: Vec<u8> = lost.iter().map(|lost| u8::from(*lost)).collect();
     let first = u32::from(first.unwrap_or(NO_BEGIN));
-    let mut next = [0; 2];
-    answer(calls::tlv_read(rate.number(), slots, begins, &lost, first, packets, &mut next))?;
-    let [written, begin] = next.map(|octets| octets as usize);
-    Ok(TlvRead { written, unfinished: Some(begin).filter(|begin| *begin < slots.len()) })
+    let read = calls::tlv_read(rate.number(), slots, begins, &lost, first, packets);
+    let unfinished = Some(read.unfinished).filter(|begin| *begin < slots.len());
+    answer(read.number).map(|()| TlvRead { written: read.written, unfinished })
 }

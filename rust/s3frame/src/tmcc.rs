@@ -1,5 +1,5 @@
 //! TMCC blocks.
-use crate::read_refusal::read_answer;
+use crate::read_refusal::word_answer;
 use crate::refusal::answer;
 use crate::{calls, ReadRefusal, Refusal};
 
@@ -25,7 +25,5 @@ pub fn code_tmcc(settings: TmccSettings, table: &[u16], source: &[u8], block: &m
 /// Refused: [`Refusal::Register`], [`Refusal::Length`], [`Refusal::Table`], [`Refusal::Parity`], [`Refusal::Bch`]; `source` is
 /// then as it was.
 pub fn read_tmcc(settings: TmccSettings, table: &[u16], block: &[u8], source: &mut [u8]) -> Result<(), ReadRefusal> {
-    let mut position = [0];
-    let number = calls::read_tmcc(settings.mask, settings.start, table, block, source, &mut position);
-    read_answer(number, position[0])
+    word_answer(calls::read_tmcc(settings.mask, settings.start, table, block, source))
 }

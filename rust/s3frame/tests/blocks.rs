@@ -2,7 +2,7 @@
 mod common;
 use common::words::{turned, Word, NO_POSITION};
 use common::{code, number, number_and_position, trials, Random};
-use reference::slot::{bits_of, octets_of, Code};
+use reference::slot::{bits_of, octets_of, Code, Refused};
 use reference::tmcc;
 use s3frame::{code_tmcc, read_tmcc, Rate, TmccSettings, BLOCK_OCTETS, TMCC_OCTETS};
 
@@ -22,13 +22,13 @@ fn coded(random: &mut Random, settings: TmccSettings, table: &[u16], source: &[u
 
 /// Reads a block both ways and compares; gives the number and the failing position, and the area.
 fn read(random: &mut Random, settings: TmccSettings, table: &[u16], block: &[u8]) -> ((u8, u16), Vec<u8>) {
-    let (found, mut position) = (random.octets(TMCC_OCTETS), [0]);
+    let found = random.octets(TMCC_OCTETS);
     let [mut ours, mut theirs] = [found.clone(), found.clone()];
-    let expected = tmcc::read(settings.mask, settings.start, table, block, &mut theirs, &mut position);
+    let expected = tmcc::read(settings.mask, settings.start, table, block, &mut theirs);
     let told = number_and_position(read_tmcc(settings, table, block, &mut ours));
-    assert_eq!(told, (expected, position[0]));
+    assert_eq!(told, Refused::told(&expected));
     assert!(ours == theirs, "what was read differs");
-    assert!(expected == 0 || ours == found, "a refusal writes nothing");
+    assert!(expected.is_ok() || ours == found, "a refusal writes nothing");
     (told, ours)
 }
 

@@ -7,8 +7,8 @@ use s3frame::{code_frame, FrameState, Plan, Rate, Refusal, SlotSettings, StuffBi
 const SETTINGS: SlotSettings = SlotSettings { mask: MASK, start: START };
 
 /// The state at slot 1 of a frame of this plan.
-fn opened(plan: &[u8]) -> FrameState {
-    let plan = Plan::of_octets(plan).expect("a plan that keeps the rules");
+fn opened(text: &str) -> FrameState {
+    let plan = Plan::of_text(text.as_bytes()).expect("a plan that keeps the rules");
     FrameState::open(plan, SETTINGS).expect("settings that are allowed")
 }
 
@@ -21,7 +21,7 @@ fn coded(state: FrameState, rate: Rate, source: &[u8]) -> (Vec<u8>, FrameState) 
 
 #[test]
 fn slots_of_equal_octets_differ_and_come_back() {
-    let (first, source) = (opened(&[5, 5, 120]), octets(5, Rate::R2_3.source_octets()));
+    let (first, source) = (opened("5 5 120\n"), octets(5, Rate::R2_3.source_octets()));
     let (slot, second) = coded(first, Rate::R2_3, &source);
     let (next, third) = coded(second, Rate::R2_3, &source);
     assert!(slot != vec![0; SLOT_OCTETS], "the area is not as it was");
@@ -36,7 +36,7 @@ fn slots_of_equal_octets_differ_and_come_back() {
 
 #[test]
 fn a_damaged_slot_leaves_the_state_where_a_good_one_does() {
-    let (first, source) = (opened(&[5, 5, 120]), octets(5, Rate::R2_3.source_octets()));
+    let (first, source) = (opened("5 5 120\n"), octets(5, Rate::R2_3.source_octets()));
     let (slot, second) = coded(first, Rate::R2_3, &source);
     let (next, _) = coded(second, Rate::R2_3, &source);
     let mut back = vec![0; source.len()];
@@ -51,7 +51,7 @@ fn a_damaged_slot_leaves_the_state_where_a_good_one_does() {
 /// Document 01's plan: 92 slots of zeros are coded and 23 dummies passed, and slot 116 is the whole frame's.
 #[test]
 fn the_register_stands_still_over_dummies() {
-    let mut state = opened(&[4, 7, 115, 2, 3, 5]);
+    let mut state = opened("4 7 115\n2 3 5\n");
     for _ in 0..92 {
         (_, state) = coded(state, Rate::R7_9, &vec![0; Rate::R7_9.source_octets()]);
     }
@@ -64,13 +64,13 @@ fn the_register_stands_still_over_dummies() {
     let mut frame = vec![0; FRAME_OCTETS];
     let source = vec![0; 92 * 4323 + 2 * 2827];
     let tables = [Rate::R7_9, Rate::R1_2].map(Rate::published_table).concat();
-    assert_eq!(code_frame(state.plan(), SETTINGS, &tables, &source, &mut frame), Ok(()));
+    assert_eq!(code_frame(&state.plan(), SETTINGS, &tables, &source, &mut frame), Ok(()));
     assert!(frame[115 * 5610..116 * 5610] == slot, "slot 116 is the whole frame's");
 }
 
 #[test]
 fn a_frame_is_full_behind_slot_120() {
-    let (mut state, source) = (opened(&[5, 1, 120]), vec![0; Rate::R1_3.source_octets()]);
+    let (mut state, source) = (opened("5 1 120\n"), vec![0; Rate::R1_3.source_octets()]);
     for _ in 0..120 {
         (_, state) = coded(state, Rate::R1_3, &source);
     }

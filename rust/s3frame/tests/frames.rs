@@ -56,7 +56,7 @@ impl Frame {
             source = behind;
             part
         };
-        (1..=SLOTS as u32).map(part).collect()
+        (1..=SLOTS as u16).map(part).collect()
     }
 }
 

@@ -1,12 +1,13 @@
 //! Where the parity of a slot broke: bits at every edge turned round, alone and with others, and the position worked from the
-//! parity table; the lone check, the readers of a slot and of its packets, and the second implementation must tell the same.
+//! parity table; the lone check, the reader of a slot, and the second implementation must tell the same.
 mod common;
 use common::words::{turned, Word, NO_POSITION};
-use common::{code, groups, number_and_position, place, told, trials, twin, Random, Told};
+use common::{code, groups, number_and_position, told, trials, twin, Random, Told};
 use reference::calls;
 use reference::ldpc::GROUP;
+use reference::slot::Refused;
 use reference::vectors::with_parity_anew;
-use s3frame::{check_parity, FrameState, Modulation, Rate, HEADER_OCTETS, SLOT_OCTETS};
+use s3frame::{check_parity, FrameState, Modulation, Rate, SLOT_OCTETS};
 
 /// A coded slot, the state that it is read from, and what its rate fixes.
 struct Sent {
@@ -27,12 +28,10 @@ impl Sent {
     /// What every call that reads or checks a slot tells of this one: reading's, and the lone check's.
     fn told(&self, slot: &[u8]) -> (Told, (u8, u16)) {
         let Sent { state, rate, table, .. } = self;
-        let [mut source, mut packets] = [vec![0; rate.source_octets()], vec![0; rate.packet_octets()]];
+        let (groups, mut source) = (groups(&state.plan()), vec![0; rate.source_octets()]);
         let read = told(state.read_slot(table, slot, &mut source).answer);
-        assert_eq!(told(state.read_packets(table, slot, &mut [0; HEADER_OCTETS], &mut packets).answer), read);
-        let (groups, mut report, mut next) = (groups(state.plan()), [0; 2], place(state));
-        let number = calls::read_slot(&twin(&groups, state), table, slot, &mut source, &mut report, &mut next);
-        assert_eq!((read.0, [read.1.into(), read.2]), (number, report));
+        let (expected, _) = calls::read_slot(&twin(&groups, state), table, slot, &mut source);
+        assert_eq!((read.0, read.2), Refused::told(&expected));
         (read, number_and_position(check_parity(*rate, table, slot)))
     }
 

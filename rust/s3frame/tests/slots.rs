@@ -1,8 +1,8 @@
 //! Slots, one call at a time, beside the second implementation.
 mod common;
 use common::words::{Word, NO_POSITION};
-use common::{code, groups, number_and_position, place, stuffed, told, trials, twin, Random, Told};
-use reference::slot::{bits_of, octets_of, Code, WIDTH};
+use common::{code, groups, number_and_position, stuffed, told, trials, twin, Random, Told};
+use reference::slot::{bits_of, octets_of, Code, Refused, NO_STUFF, WIDTH};
 use reference::{calls, dispersal, ldpc, vectors};
 use s3frame::{FrameState, Group, Modulation, Plan, Rate, Refusal, SlotSettings, SLOT_OCTETS};
 
@@ -10,11 +10,10 @@ use s3frame::{FrameState, Group, Modulation, Plan, Rate, Refusal, SlotSettings, 
 fn coded(random: &mut Random, state: FrameState, table: &[u16], source: &[u8]) -> (Vec<u8>, FrameState) {
     let found = random.octets(SLOT_OCTETS);
     let [mut ours, mut theirs] = [found.clone(), found];
-    let mut next = place(&state);
-    let groups = groups(state.plan());
-    assert_eq!(calls::code_slot(&twin(&groups, &state), table, source, &mut theirs, &mut next), 0);
+    let groups = groups(&state.plan());
+    let expected = calls::code_slot(&twin(&groups, &state), table, source, &mut theirs).expect("a slot that is coded");
     let after = state.code_slot(table, source, &mut ours).expect("a slot that is coded");
-    assert_eq!(place(&after), next);
+    assert_eq!(twin(&groups, &after), expected);
     assert!(ours == theirs, "the slots differ");
     (ours, after)
 }
@@ -29,23 +28,22 @@ fn read(
 ) -> (Told, Vec<u8>, FrameState) {
     let found = random.octets(count);
     let [mut ours, mut theirs] = [found.clone(), found.clone()];
-    let (mut report, mut next) = ([0; 2], place(&state));
-    let groups = groups(state.plan());
-    let expected = calls::read_slot(&twin(&groups, &state), table, slot, &mut theirs, &mut report, &mut next);
+    let groups = groups(&state.plan());
+    let (expected, after) = calls::read_slot(&twin(&groups, &state), table, slot, &mut theirs);
     let read = state.read_slot(table, slot, &mut ours);
     let told = told(read.answer);
-    assert_eq!((told.0, [told.1.into(), told.2]), (expected, report));
-    assert_eq!(place(&read.state), next);
+    assert_eq!((told.0, told.2), Refused::told(&expected));
+    assert_eq!(told.1, expected.unwrap_or(NO_STUFF));
+    assert_eq!((read.state.plan(), twin(&groups, &read.state)), (state.plan(), after));
     assert!(ours == theirs, "what was read differs");
-    assert!(expected == 0 || ours == found, "a refused slot writes nothing");
+    assert!(expected.is_ok() || ours == found, "a refused slot writes nothing");
     (told, ours, read.state)
 }
 
 /// Checks a slot's parity both ways and compares; gives number and failing position.
 fn checked(rate: Rate, table: &[u16], slot: &[u8]) -> (u8, u16) {
-    let (ours, mut position) = (number_and_position(s3frame::check_parity(rate, table, slot)), [0]);
-    let expected = calls::check_parity(rate as usize, table, slot, &mut position);
-    assert_eq!(ours, (expected, position[0]));
+    let ours = number_and_position(s3frame::check_parity(rate, table, slot));
+    assert_eq!(ours, Refused::told(&calls::check_parity(rate as usize, table, slot)));
     ours
 }
 
@@ -212,7 +210,7 @@ fn frames_slot_by_slot() {
 fn a_refused_state_stays() {
     let mut random = Random::new(3);
     let (rate, sound) = (Rate::R7_9, random.state(Modulation::Apsk16, Rate::R7_9));
-    let (plan, settings, slot, register) = (*sound.plan(), sound.settings(), sound.slot(), sound.register());
+    let (plan, settings, slot, register) = (sound.plan(), sound.settings(), sound.slot(), sound.register());
     let (table, source) = (random.table(rate), random.octets(rate.source_octets()));
     let state = |slot, register| FrameState::at(plan, settings, slot, register);
     let cases = [

@@ -1,7 +1,7 @@
-//! A second implementation of the coders and readers of slots, whole frames and TMCC blocks, of TLV channels, of settings on a
-//! card, and of signal points, written from document 002 and, where its drawings are lost, from documents 01 and 02. It shares
-//! nothing with the proved crates: bits lie one to an octet, and each step is the document's. The library is for tests that
-//! compare call by call.
+//! A second implementation of the coders and readers of slots, whole frames and TMCC blocks, of TLV channels, of plans as text,
+//! of settings on a card, and of signal points, written from document 002 and, where its drawings are lost, from documents 01
+//! and 02. It shares nothing with the proved crates: bits lie one to an octet, and each step is the document's. The library is
+//! for tests that compare call by call.
 pub mod bch;
 pub mod bench;
 pub mod calls;

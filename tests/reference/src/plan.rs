@@ -6,7 +6,7 @@ use crate::slot::{message_bits, ORDER_WRONG, PLAN_WRONG, TOTAL_WRONG, VALUE_WRON
 pub const SLOTS: usize = 120;
 
 /// The slots given to a modulation, numbered by its bits in a symbol, and a rate, numbered from 1, dummies included.
-#[derive(Clone, Copy)]
+#[derive(Clone, Copy, Debug, PartialEq)]
 pub struct Group {
     pub modulation: usize,
     pub rate: usize,
@@ -50,15 +50,6 @@ pub fn plan(groups: &[(usize, usize, usize)]) -> Vec<Group> {
     groups.iter().map(|&(modulation, rate, slots)| Group { modulation, rate, slots }).collect()
 }
 
-/// A plan lent as octets, three for each group. A list that is too long or ends within a group is no plan, and gives none.
-pub fn of_octets(octets: &[u8]) -> Vec<Group> {
-    if octets.len() > 24 || octets.len() % 3 != 0 {
-        return Vec::new();
-    }
-    let group = |three: &[u8]| (usize::from(three[0]), usize::from(three[1]), usize::from(three[2]));
-    plan(&octets.chunks(3).map(group).collect::<Vec<_>>())
-}
-
 /// Whether the groups stand in the order of 2.2.1.2 (1): higher modulation first, then higher rate, and no two alike.
 fn falls(plan: &[Group]) -> bool {
     plan.windows(2).all(|two| (two[0].modulation, two[0].rate) > (two[1].modulation, two[1].rate))
@@ -93,6 +84,54 @@ pub fn source_octets(plan: &[Group]) -> usize {
     plan.iter().map(|group| group.data_slots() * group.source_octets()).sum()
 }
 
+/// The octets that a plan's text has at most.
+const TEXT_OCTETS: usize = 128;
+
+/// A number of 1 to 3 digits, without a leading zero but in 0 itself.
+fn number_of(word: &str) -> Option<usize> {
+    let digits = (1..=3).contains(&word.len()) && word.bytes().all(|octet| octet.is_ascii_digit());
+    if digits && (word == "0" || !word.starts_with('0')) { word.parse().ok() } else { None }
+}
+
+/// The group of a line, one space between its numbers.
+fn group_of(line: &str) -> Option<Group> {
+    match line.split(' ').map(number_of).collect::<Option<Vec<usize>>>()?[..] {
+        [modulation, rate, slots] => Some(Group { modulation, rate, slots }),
+        _ => None,
+    }
+}
+
+/// The groups of a text, with a line feed after each line.
+fn groups_of(text: &[u8]) -> Option<Vec<Group>> {
+    let text = std::str::from_utf8(text).ok().filter(|text| text.len() <= TEXT_OCTETS)?;
+    text.strip_suffix('\n')?.split('\n').map(group_of).collect()
+}
+
+/// The plan that a text says.
+pub fn of_text(text: &[u8]) -> Result<Vec<Group>, u8> {
+    let groups = groups_of(text).ok_or(PLAN_WRONG)?;
+    accept(&groups)?;
+    Ok(groups)
+}
+
+/// What program plan-list prints for a text.
+pub fn list(text: &[u8]) -> String {
+    let plan = match of_text(text) {
+        Ok(plan) => plan,
+        Err(number) => return format!("refused {number}\n"),
+    };
+    let (mut list, mut before) = ("first last mod rate kind\n".to_string(), 0);
+    for group in &plan {
+        let (data, Group { modulation, rate, slots }) = (group.data_slots(), group);
+        for (count, kind) in [(data, "data"), (slots - data, "dummy")].into_iter().filter(|run| run.0 > 0) {
+            list += &format!("{} {} {modulation} {rate} {kind}\n", before + 1, before + count);
+            before += count;
+        }
+    }
+    let data: usize = plan.iter().map(Group::data_slots).sum();
+    list + &format!("total {data} data {} dummy\n", SLOTS - data)
+}
+
 #[cfg(test)]
 mod tests {
     use super::*;
@@ -112,12 +151,23 @@ mod tests {
     }
 
     #[test]
-    fn octets_of_whole_groups() {
-        let number = |octets: &[u8]| accept(&of_octets(octets)).err().unwrap_or(0);
-        assert_eq!([number(&[4, 7, 115, 2, 3, 5]), number(&[5, 11, 120])], [0, 0]);
-        assert_eq!([number(&[]), number(&[5, 11, 120, 0]), number(&[5, 11])], [1, 1, 1]);
-        let nine: Vec<u8> = (1..=9).rev().flat_map(|rate| [1, rate, 10]).collect();
-        assert_eq!([number(&nine), number(&nine[..24])], [1, 15]);
+    fn texts_of_the_form_of_document_01() {
+        assert_eq!(of_text(b"4 7 115\n2 3 5\n"), Ok(plan(&[(4, 7, 115), (2, 3, 5)])));
+        let number = |text: &str| of_text(text.as_bytes()).err().unwrap_or(0);
+        assert_eq!(["", "\n", "4 7 115", "4 7 115\n\n", "4 7\n", "4 7 115 \n", "4  7 115\n"].map(number), [1; 7]);
+        assert_eq!(["04 7 120\n", "4 7 0115\n", "4 7 1000\n", "4 7 +20\n", "4 7 120\r\n"].map(number), [1; 5]);
+        assert_eq!(["0 0 0\n", "4 7 999\n", "4 7 115\n"].map(number), [13, 13, 15]);
+        assert_eq!([9, 16, 17].map(|lines| number(&"4 7 115\n".repeat(lines))), [1; 3]);
+        assert_eq!(number(&"4 7 115\n".repeat(8)), 14);
+        assert_eq!(of_text(b"4 7 \xff\n"), Err(1));
+    }
+
+    #[test]
+    fn the_list_of_document_01() {
+        let listed = "first last mod rate kind\n1 92 4 7 data\n93 115 4 7 dummy\n116 117 2 3 data\n118 120 2 3 dummy\n";
+        assert_eq!(list(b"4 7 115\n2 3 5\n"), format!("{listed}total 94 data 26 dummy\n"));
+        assert_eq!(list(b"5 1 120\n"), "first last mod rate kind\n1 120 5 1 data\ntotal 120 data 0 dummy\n");
+        assert_eq!([list(b""), list(b"4 7 115\n")], ["refused 1\n", "refused 15\n"]);
     }
 
     #[test]

@@ -13,8 +13,8 @@ const BPSK: usize = 1;
 const SIGN: u32 = 1 << 31;
 const EXPONENT: u32 = 0xff << 23;
 
-/// I and Q.
-type Point = [u32; 2];
+/// I and Q, by their bits.
+pub type Point = [u32; 2];
 
 /// Turns a point by 90 degrees anticlockwise.
 fn quarter_turn([i, q]: Point) -> Point {
@@ -71,38 +71,18 @@ impl<'a> Lists<'a> {
         Ok((u64::from(symbol)..).zip(lent).map(turned).collect())
     }
 
-    /// The point of one label, for an area of two coordinates.
-    fn point(&self, symbol: u32, label: u32, area: &[f32]) -> Result<Point, u8> {
-        Ok(self.points(symbol, &[label], area.len() == 2)?[0])
+    /// The point of one label.
+    fn point(&self, symbol: u32, label: u32) -> Result<Point, u8> {
+        Ok(self.points(symbol, &[label], true)?[0])
     }
 }
 
-/// Writes a point, where there is one, and gives the call's number.
-fn answer(found: Result<Point, u8>, area: &mut [f32]) -> u8 {
-    match found {
-        Err(refusal) => refusal,
-        Ok(point) => {
-            area.copy_from_slice(&point.map(f32::from_bits));
-            0
-        }
-    }
-}
-
-/// The point of a label, as I and Q. `symbol` is the symbol's number in the frame, which counts for BPSK alone.
-pub fn point(
-    modulation: usize,
-    label: u32,
-    symbol: u32,
-    in_phase: &[f32],
-    quadrature: &[f32],
-    point: &mut [f32],
-) -> u8 {
-    let found = Lists::new(modulation, in_phase, quadrature).and_then(|lists| lists.point(symbol, label, point));
-    answer(found, point)
+/// The point of a label. `symbol` is the symbol's number in the frame, which counts for BPSK alone.
+pub fn point(modulation: usize, label: u32, symbol: u32, in_phase: &[f32], quadrature: &[f32]) -> Result<Point, u8> {
+    Lists::new(modulation, in_phase, quadrature)?.point(symbol, label)
 }
 
 /// The point of a label in the arrangement signal, under its register as it stands.
-#[allow(clippy::too_many_arguments)] // those of the call
 pub fn arranged_point(
     modulation: usize,
     label: u32,
@@ -111,31 +91,18 @@ pub fn arranged_point(
     quadrature: &[f32],
     mask: u32,
     register: u32,
-    point: &mut [f32],
-) -> u8 {
-    let found = Lists::new(modulation, in_phase, quadrature).and_then(|lists| {
-        if !allowed(WIDTH, mask, register) {
-            return Err(REGISTER_WRONG);
-        }
-        let plain = lists.point(symbol, label, point)?;
-        Ok(if register >> (WIDTH - 1) == 1 { half_turn(plain) } else { plain })
-    });
-    answer(found, point)
+) -> Result<Point, u8> {
+    let lists = Lists::new(modulation, in_phase, quadrature)?;
+    if !allowed(WIDTH, mask, register) {
+        return Err(REGISTER_WRONG);
+    }
+    let plain = lists.point(symbol, label)?;
+    Ok(if register >> (WIDTH - 1) == 1 { half_turn(plain) } else { plain })
 }
 
-/// The arrangement signal's register after a symbol. Every answer writes it into an area of one number, 0 with a refusal.
-pub fn arranged_step(mask: u32, register: u32, next: &mut [u32]) -> u8 {
-    let stepped = if !allowed(WIDTH, mask, register) {
-        Err(REGISTER_WRONG)
-    } else if next.len() != 1 {
-        Err(LENGTH_WRONG)
-    } else {
-        Ok(step(WIDTH, mask, register))
-    };
-    if let [next] = next {
-        *next = stepped.unwrap_or(0);
-    }
-    stepped.err().unwrap_or(0)
+/// The arrangement signal's register after a symbol.
+pub fn arranged_step(mask: u32, register: u32) -> Result<u32, u8> {
+    if allowed(WIDTH, mask, register) { Ok(step(WIDTH, mask, register)) } else { Err(REGISTER_WRONG) }
 }
 
 /// The points of labels, one octet each, in two areas, one for each coordinate. `symbol` is that of the first label, and the

@@ -100,15 +100,6 @@ impl Refused {
     pub fn told<T>(answer: &Result<T, Refused>) -> (u8, u16) {
         answer.as_ref().err().map_or((0, NO_POSITION), |refused| (refused.number, refused.position))
     }
-
-    /// Writes the position of an answer where its area has one number, and gives the answer's number.
-    pub fn tell<T>(answer: &Result<T, Refused>, area: &mut [u16]) -> u8 {
-        let (number, position) = Refused::told(answer);
-        if let [place] = area {
-            *place = position;
-        }
-        number
-    }
 }
 
 /// A refusal other than that of parity.

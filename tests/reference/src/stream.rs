@@ -17,16 +17,6 @@ fn null_packet() -> Vec<u8> {
     packet
 }
 
-/// The plan's groups, a line of three numbers for each.
-fn groups(text: &str) -> Vec<Group> {
-    let number = |word: &str| word.parse().expect("a number");
-    let group = |line: &str| {
-        let words: Vec<usize> = line.split(' ').map(number).collect();
-        (words[0], words[1], words[2])
-    };
-    plan::plan(&text.lines().map(group).collect::<Vec<_>>())
-}
-
 /// The packets of each data slot of a frame.
 fn slot_packets(plan: &[Group]) -> Vec<(usize, usize)> {
     let of_group = |group: usize| (plan[group].rate, packets_of(plan[group].rate).expect("a known rate"));
@@ -72,7 +62,7 @@ pub fn renew_parity(rate: usize) {
 
 /// Reads the files that `s3frame code` reads, and writes the frames.
 pub fn write([plan, mask, start, packets, out]: [&str; 5], headers: Option<&&str>) {
-    let plan = groups(&fs::read_to_string(plan).expect("a plan"));
+    let plan = plan::of_text(&fs::read(plan).expect("a plan's text")).expect("a plan");
     let packets = fs::read(packets).expect("packets");
     let headers = headers.map(|path| fs::read(path).expect("headers")).unwrap_or_default();
     let number = |word: &str| word.parse().expect("a number");

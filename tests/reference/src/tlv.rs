@@ -35,13 +35,6 @@ fn body_right(packet: &[u8]) -> bool {
     packet[1] != NULL || packet[HEAD..].iter().all(|&octet| octet == 0xff)
 }
 
-/// Writes the numbers that a call returns; an area that is not for two numbers is left alone.
-fn put(next: &mut [u64], numbers: [u64; 2]) {
-    if next.len() == 2 {
-        next.copy_from_slice(&numbers);
-    }
-}
-
 /// The packet that lent packets begin with, where it is right and all there.
 fn first_packet(packets: &[u8]) -> Option<&[u8]> {
     let head = packets.get(..HEAD).filter(|head| head_right(head))?;
@@ -60,8 +53,8 @@ fn heads(packets: &[u8]) -> Option<Vec<bool>> {
 }
 
 /// Whether what filling is lent, but for the packets' octets, has the form that it must have.
-fn filling_fits(data: usize, packets: &[u8], taken: u64, owed: u32, slots: &[u8], begins: &[u16]) -> bool {
-    let all = packets.len() as u64;
+fn filling_fits(data: usize, packets: &[u8], taken: usize, owed: usize, slots: &[u8], begins: &[u16]) -> bool {
+    let all = packets.len();
     let slots_fit = !slots.is_empty() && slots.len() % data == 0 && begins.len() == slots.len() / data;
     slots_fit && taken <= all && owed <= 3 && (owed == 0 || taken == 0 || taken == all)
 }
@@ -84,30 +77,21 @@ impl Stream {
 }
 
 /// Fills the slots with the owed octets of a filler, the packets that were not taken yet, and fillers; reports where the
-/// first of these begins in each slot. `next` gets how many of the packets' octets are taken then, and how many octets of a
-/// cut filler are owed.
+/// first of these begins in each slot. Gives how many of the packets' octets are taken then, and how many octets of a cut
+/// filler are owed.
 pub fn fill(
     rate: usize,
     packets: &[u8],
-    taken: u64,
-    owed: u32,
+    taken: usize,
+    owed: usize,
     slots: &mut [u8],
     begins: &mut [u16],
-    next: &mut [u64],
-) -> u8 {
-    put(next, [0, 0]);
-    let data = match data_octets(rate) {
-        Some(data) => data,
-        None => return PLAN_WRONG,
-    };
-    if next.len() != 2 || !filling_fits(data, packets, taken, owed, slots, begins) {
-        return LENGTH_WRONG;
+) -> Result<(usize, usize), u8> {
+    let data = data_octets(rate).ok_or(PLAN_WRONG)?;
+    if !filling_fits(data, packets, taken, owed, slots, begins) {
+        return Err(LENGTH_WRONG);
     }
-    let heads = match heads(packets) {
-        Some(heads) => heads,
-        None => return PACKET_WRONG,
-    };
-    let (taken, owed) = (taken as usize, owed as usize);
+    let heads = heads(packets).ok_or(PACKET_WRONG)?;
     let mut stream = Stream::new();
     stream.put(&FILLER[HEAD - owed..], &vec![false; owed]);
     stream.put(&packets[taken..], &heads[taken..]);
@@ -121,8 +105,7 @@ pub fn fill(
     // What is left of the stream is packets, unless all of them found room: then it is the rest of the last filler.
     let taken_in_all = packets.len().min(taken + slots.len() - owed);
     let left = if taken_in_all == packets.len() { stream.octets.len() - slots.len() } else { 0 };
-    put(next, [taken_in_all as u64, left as u64]);
-    0
+    Ok((taken_in_all, left))
 }
 
 /// Why no packet is read at a position.
@@ -203,8 +186,8 @@ fn place_fits(data: usize, octet: u32) -> bool {
     (octet as usize) < data || octet == NO_BEGIN.into()
 }
 
-/// Reads packets out of slots, from the octet `first` of the first slot on. `next` gets how many octets were written, and
-/// where in the slots an unfinished last packet begins, or the slots' length.
+/// Reads packets out of slots, from the octet `first` of the first slot on. Gives how many octets were written, and where in
+/// the slots an unfinished last packet begins, or the slots' length.
 pub fn read(
     rate: usize,
     slots: &[u8],
@@ -212,21 +195,15 @@ pub fn read(
     lost: &[u8],
     first: u32,
     packets: &mut [u8],
-    next: &mut [u64],
-) -> u8 {
-    put(next, [0, 0]);
-    let data = match data_octets(rate) {
-        Some(data) => data,
-        None => return PLAN_WRONG,
-    };
+) -> Result<(usize, usize), u8> {
+    let data = data_octets(rate).ok_or(PLAN_WRONG)?;
     let received = Received { data, octets: slots, begins, lost };
-    if next.len() != 2 || packets.len() != slots.len() || !received.fits() || !place_fits(data, first) {
-        return LENGTH_WRONG;
+    if packets.len() != slots.len() || !received.fits() || !place_fits(data, first) {
+        return Err(LENGTH_WRONG);
     }
     let (read, unfinished) = received.packets(first as u16);
     packets[..read.len()].copy_from_slice(&read);
-    put(next, [read.len() as u64, unfinished as u64]);
-    0
+    Ok((read.len(), unfinished))
 }
 
 #[cfg(test)]

@@ -69,17 +69,13 @@ fn read_bits(code: &Code, mask: u32, start: u32, block: &[u8]) -> Result<Vec<u8>
     Ok(bits)
 }
 
-/// Reads a block whose checks hold into the source, its last two bits zeros. Every answer writes a position of one number: with
-/// 8 the lowest failing one among the 22,066 parity bits, else 65535.
-pub fn read(mask: u32, start: u32, table: &[u16], block: &[u8], source: &mut [u8], position: &mut [u16]) -> u8 {
-    let lengths_hold = source.len() == SOURCE_OCTETS && block.len() == OCTETS && position.len() == 1;
-    let read = accept(mask, start, table, lengths_hold)
-        .map_err(Refused::from)
-        .and_then(|code| read_bits(&code, mask, start, block));
-    if let Ok(tmcc) = &read {
-        source.copy_from_slice(&octets_of(&[tmcc, &[0, 0][..]].concat()));
-    }
-    Refused::tell(&read, position)
+/// Reads a block whose checks hold into the source, its last two bits zeros. A failing position is one among the 22,066 parity
+/// bits.
+pub fn read(mask: u32, start: u32, table: &[u16], block: &[u8], source: &mut [u8]) -> Result<(), Refused> {
+    let code = accept(mask, start, table, source.len() == SOURCE_OCTETS && block.len() == OCTETS)?;
+    let tmcc = read_bits(&code, mask, start, block)?;
+    source.copy_from_slice(&octets_of(&[&tmcc, &[0, 0][..]].concat()));
+    Ok(())
 }
 
 #[cfg(test)]
@@ -121,9 +117,9 @@ mod tests {
 
     #[test]
     fn reading_gives_back_what_was_coded() {
-        let (mut found, mut position) = (vec![0xff; SOURCE_OCTETS], [7]);
-        assert_eq!(read(MASK, START, &printed([RATE]), &coded(), &mut found, &mut position), 0);
-        assert_eq!((found, position), (sample(), [65535]));
+        let mut found = vec![0xff; SOURCE_OCTETS];
+        assert_eq!(read(MASK, START, &printed([RATE]), &coded(), &mut found), Ok(()));
+        assert_eq!(found, sample());
     }
 
     #[test]
@@ -137,10 +133,10 @@ mod tests {
 
     /// The number and position of reading a block, which may leave no source.
     fn refused(block: &[u8]) -> (u8, u16) {
-        let (mut found, mut position) = (octets(9, SOURCE_OCTETS), [7]);
-        let number = read(MASK, START, &printed([RATE]), block, &mut found, &mut position);
+        let mut found = octets(9, SOURCE_OCTETS);
+        let answer = read(MASK, START, &printed([RATE]), block, &mut found);
         assert_eq!(found, octets(9, SOURCE_OCTETS));
-        (number, position[0])
+        Refused::told(&answer)
     }
 
     /// The same of a block where these bits are the other ones.
@@ -182,17 +178,13 @@ mod tests {
         }
     }
 
-    /// The numbers of both calls whose source and block are longer than their lengths by so much. Reading must write a position
-    /// of one number, and leave one of two.
+    /// The numbers of both calls whose source and block are longer than their lengths by so much; 8 alone has a position.
     fn numbers(mask: u32, start: u32, table: &[u16], longer: [usize; 2]) -> [u8; 2] {
         let [source, block] = [octets(1, SOURCE_OCTETS + longer[0]), octets(2, OCTETS + longer[1])];
-        let ([mut found, mut made], mut one, mut two) = ([source.clone(), block.clone()], [7], [7, 7]);
+        let [mut found, mut made] = [source.clone(), block.clone()];
         let coding = code(mask, start, table, &source, &mut made);
-        let reading = read(mask, start, table, &block, &mut found, &mut one);
-        assert_eq!((one[0] == 65535, one[0] == 7), (reading != 8, false));
-        let other = if reading == 6 { 6 } else { 4 };
-        assert_eq!((read(mask, start, table, &block, &mut found, &mut two), two), (other, [7, 7]));
-        assert_eq!(read(mask, start, table, &block, &mut found, &mut []), other);
+        let (reading, position) = Refused::told(&read(mask, start, table, &block, &mut found));
+        assert_eq!(position == 65535, reading != 8);
         assert!(found == source && made == block);
         [coding, reading]
     }

@@ -1,4 +1,5 @@
 //! Cards of settings, their blocks octet for octet as document 02, N4, lays them out.
+use super::plans::threes;
 use super::Random;
 use s3frame::{Settings, SETTING_OCTETS};
 
@@ -16,12 +17,12 @@ pub fn put_sum(block: &mut [u8]) {
     block[SUM..].copy_from_slice(&sum.to_be_bytes());
 }
 
-/// The block of these octets and numbers, with its mark, edition and sum, and with zeros everywhere else.
-pub fn block(count: u8, groups: &[u8], registers: [u32; 4]) -> Vec<u8> {
+/// The block of these numbers, with its mark, edition and sum, and with zeros everywhere else.
+pub fn block(count: u8, groups: &[u16], registers: [u32; 4]) -> Vec<u8> {
     let mut block = vec![0; SETTING_OCTETS];
     block[..5].copy_from_slice(b"S3PL\x01");
     block[5] = count;
-    block[6..6 + groups.len()].copy_from_slice(groups);
+    block[6..].iter_mut().zip(groups).for_each(|(octet, &number)| *octet = number as u8);
     for (place, number) in block[30..46].chunks_mut(4).zip(registers) {
         place.copy_from_slice(&number.to_be_bytes());
     }
@@ -31,8 +32,8 @@ pub fn block(count: u8, groups: &[u8], registers: [u32; 4]) -> Vec<u8> {
 
 /// The block that a replacement must write.
 pub fn block_of(kept: &Settings) -> Vec<u8> {
-    let plan = kept.plan.octets();
-    block((plan.len() / 3) as u8, plan, registers(kept))
+    let groups = threes(&kept.plan).concat();
+    block((groups.len() / 3) as u8, &groups, registers(kept))
 }
 
 impl Random {

@@ -1,8 +1,14 @@
 //! Inputs that are wrong in a way that a refusal names.
+use super::plans::{Handed, Three};
 use super::{lent, rows, Random};
 use reference::ldpc::GROUP;
 use reference::tables::taken;
-use s3frame::{Rate, PACKET_OCTETS};
+use s3frame::{Rate, MOST_GROUPS, PACKET_OCTETS};
+
+/// Where the numbers of a group stand.
+const MODULATION: usize = 0;
+const RATE: usize = 1;
+const SLOTS: usize = 2;
 
 /// What is wrong with the inputs of one call, by the numbers of refusals in the order in which the call tests them.
 pub struct Faults(Vec<u8>);
@@ -39,88 +45,101 @@ pub fn pairs_with(number: u8, numbers: &[u8]) -> Vec<Faults> {
 }
 
 /// 1, 13, 14 and 15: a plan that breaks the rules asked for, made of one that keeps them all.
-pub fn break_plan(random: &mut Random, faults: &Faults, plan: &mut Vec<u8>) {
+pub fn break_plan(random: &mut Random, faults: &Faults, plan: &mut Handed) {
     break_rules(random, faults, plan);
     if faults.has(1) {
-        break_groups(random, plan);
+        break_count(random, plan);
     }
 }
 
 /// The same, with slot number 0 as another way to 1.
-pub fn break_plan_or_slot(random: &mut Random, faults: &Faults, plan: &mut Vec<u8>, slot: &mut u32) {
+pub fn break_plan_or_slot(random: &mut Random, faults: &Faults, plan: &mut Handed, slot: &mut u16) {
     break_rules(random, faults, plan);
     if faults.has(1) {
         match random.below(5) {
             0 => *slot = 0,
-            _ => break_groups(random, plan),
+            _ => break_count(random, plan),
         }
     }
 }
 
 /// 13, 14 and 15, each without breaking a rule that is not asked for, or mending one that is.
-pub fn break_rules(random: &mut Random, faults: &Faults, plan: &mut Vec<u8>) {
+fn break_rules(random: &mut Random, faults: &Faults, plan: &mut Handed) {
+    break_groups(random, faults, &mut plan.groups);
+    plan.count = plan.groups.len() as u16;
+}
+
+/// The same of groups by themselves.
+pub fn break_groups(random: &mut Random, faults: &Faults, groups: &mut Vec<Three>) {
     if faults.has(15) {
-        break_total(random, plan);
+        break_total(random, groups);
     }
     if faults.has(13) {
-        break_value(random, plan);
+        break_value(random, groups);
     }
     if faults.has(14) {
-        break_order(random, plan);
+        break_order(random, groups);
     }
 }
 
-/// 1: no groups, octets that end within one, or nine groups.
-fn break_groups(random: &mut Random, plan: &mut Vec<u8>) {
-    match random.below(4) {
-        0 => plan.clear(),
-        1 => plan.push(0),
-        2 => drop(plan.pop()),
-        _ => *plan = plan.iter().copied().cycle().take(27).collect(),
-    }
+/// 1: no groups, or more than eight, also a number that is right in its low octet.
+fn break_count(random: &mut Random, plan: &mut Handed) {
+    plan.count = random.pick(&[0, 9, 10, 255, 256, 256 + plan.count, 1 << 15 | plan.count, u16::MAX]);
 }
 
 /// 15: a group less, or slots less or more, in fives.
-fn break_total(random: &mut Random, plan: &mut Vec<u8>) {
-    let slots = 3 * random.below(plan.len() / 3) + 2;
-    match random.below(3) {
-        0 if plan.len() > 3 => plan.truncate(plan.len() - 3),
-        1 if plan[slots] > 5 => plan[slots] -= 5,
-        _ => plan[slots] += random.pick(&[5, 10, 130]),
+fn break_total(random: &mut Random, groups: &mut Vec<Three>) {
+    let group = random.below(groups.len());
+    match random.below(4) {
+        0 if groups.len() > 1 => drop(groups.pop()),
+        1 if groups[group][SLOTS] > 5 => groups[group][SLOTS] -= 5,
+        2 if groups.len() > 5 => wrap_total(groups),
+        _ => groups[group][SLOTS] += random.pick(&[5, 10, 130, 65_280]),
+    }
+}
+
+/// Five times 65,536 slots more, which six groups have room for: a total that is right in 16 bits.
+fn wrap_total(groups: &mut [Three]) {
+    let mut more = 5 * 65_536;
+    for group in groups {
+        let added = more.min(65_535 - usize::from(group[SLOTS]));
+        group[SLOTS] += added as u16;
+        more -= added;
     }
 }
 
 /// 13: an unknown modulation or rate in the first or last group, so that groups fall as before; or slots of no fives, or none,
 /// whose total is as before.
-fn break_value(random: &mut Random, plan: &mut [u8]) {
-    let last = plan.len() - 3;
+fn break_value(random: &mut Random, groups: &mut [Three]) {
+    let last = groups.len() - 1;
+    let room = last > 0 && groups[0][SLOTS] < 1_000 && groups[last][SLOTS] < 1_000;
     match random.below(6) {
-        0 => plan[last] = 0,
-        1 => plan[last + 1] = 0,
-        2 => plan[1] = random.pick(&[12, 255]),
-        3 if last > 0 => {
-            plan[2] += 1;
-            plan[last + 2] -= 1;
+        0 => groups[last][MODULATION] = 0,
+        1 => groups[last][RATE] = 0,
+        2 => groups[0][RATE] = random.pick(&[12, 255, 256 + groups[0][RATE], u16::MAX]),
+        3 if room => {
+            groups[0][SLOTS] += 1;
+            groups[last][SLOTS] -= 1;
         }
-        4 if last > 0 => {
-            plan[2] += plan[last + 2];
-            plan[last + 2] = 0;
+        4 if room => {
+            groups[0][SLOTS] += groups[last][SLOTS];
+            groups[last][SLOTS] = 0;
         }
-        _ => plan[0] = random.pick(&[6, 255]),
+        _ => groups[0][MODULATION] = random.pick(&[6, 255, 256 + groups[0][MODULATION], u16::MAX]),
     }
 }
 
 /// 14: five slots of a group as another group alike, or two neighbours exchanged.
-fn break_order(random: &mut Random, plan: &mut Vec<u8>) {
-    let group = 3 * random.below(plan.len() / 3);
-    let one_more = plan.len() < 24 && plan[group + 2] > 5 && random.chance(2);
-    if one_more || plan.len() == 3 {
-        plan[group + 2] -= 5;
-        let alike = [plan[group], plan[group + 1], 5];
-        plan.splice(group..group, alike);
+fn break_order(random: &mut Random, groups: &mut Vec<Three>) {
+    let group = random.below(groups.len());
+    let one_more = groups.len() < MOST_GROUPS && groups[group][SLOTS] > 5 && random.chance(2);
+    if one_more || groups.len() == 1 {
+        groups[group][SLOTS] -= 5;
+        let alike = [groups[group][MODULATION], groups[group][RATE], 5];
+        groups.insert(group, alike);
     } else {
-        let pair = group.min(plan.len() - 6);
-        plan[pair..pair + 6].rotate_left(3);
+        let first = group.min(groups.len() - 2);
+        groups.swap(first, first + 1);
     }
 }
 
@@ -129,9 +148,9 @@ pub fn unknown(random: &mut Random, known: &mut u32, count: u32) {
     *known = random.pick(&[0, count + 1, 255, 256 + *known, 65_536 + *known, 1 << 31 | *known, u32::MAX]);
 }
 
-/// 3: a slot number behind the last, also one that is a slot's in its low octets.
-pub fn past_slot(random: &mut Random, slot: &mut u32) {
-    *slot = random.pick(&[121, 122, 255, 256, 256 + *slot, 65_536 + *slot, u32::MAX]);
+/// 3: a slot number behind the last, also one that is a slot's in its low octet.
+pub fn past_slot(random: &mut Random, slot: &mut u16) {
+    *slot = random.pick(&[121, 122, 255, 256, 256 + *slot, u16::MAX]);
 }
 
 /// 6: a start, or a register in a state, that is 0 or too wide.

@@ -4,6 +4,7 @@
 #![allow(dead_code)] // each test file uses a part of this
 pub mod cards;
 pub mod faults;
+pub mod plans;
 pub mod points;
 pub mod tlv;
 pub mod words;
@@ -156,7 +157,7 @@ impl Random {
             }
         }
         kinds.sort_by(|a, b| b.cmp(a));
-        let mut fives = vec![1u8; kinds.len()];
+        let mut fives = vec![1u16; kinds.len()];
         for _ in kinds.len()..24 {
             let group = self.below(kinds.len());
             fives[group] += 1;
@@ -174,11 +175,11 @@ impl Random {
     /// A state at a data slot of this modulation and rate.
     pub fn state(&mut self, modulation: Modulation, rate: Rate) -> FrameState {
         let plan = self.plan_with(modulation, rate);
-        let of_kind = |slot: &u32| {
+        let of_kind = |slot: &u16| {
             let place = plan.place(*slot).expect("a slot of the frame");
             place.data && (place.modulation, place.rate) == (modulation, rate)
         };
-        let slots: Vec<u32> = (1..=120).filter(of_kind).collect();
+        let slots: Vec<u16> = (1..=120).filter(of_kind).collect();
         let (settings, register) = (self.slot_settings(), self.register(25));
         FrameState::at(plan, settings, self.pick(&slots), register)
     }
@@ -253,18 +254,14 @@ pub fn lent(row: &[usize]) -> Vec<u16> {
 
 /// The plan as the second implementation has it.
 pub fn groups(plan: &Plan) -> Vec<reference::plan::Group> {
-    reference::plan::of_octets(plan.octets())
+    plans::groups_of(&plans::threes(plan))
 }
 
 /// The same state for the second implementation.
 pub fn twin<'a>(groups: &'a [reference::plan::Group], state: &FrameState) -> State<'a> {
     let settings = state.settings();
-    State { plan: groups, mask: settings.mask, start: settings.start, slot: state.slot(), register: state.register() }
-}
-
-/// Slot and register of a state.
-pub fn place(state: &FrameState) -> [u32; 2] {
-    [state.slot(), state.register()]
+    let (slot, register) = (state.slot().into(), state.register());
+    State { plan: groups, mask: settings.mask, start: settings.start, slot, register }
 }
 
 /// How many rows the parity table of a rate has.

@@ -48,7 +48,7 @@ impl Stream {
         };
         let owed = random.below(4);
         let packets = random.tlv_packets(rate.data_octets(), owed, about);
-        let mut stream = Stream { rate, slots, packets, from: TlvFilled { taken: 0, owed: owed as u32 } };
+        let mut stream = Stream { rate, slots, packets, from: TlvFilled { taken: 0, owed } };
         if random.chance(3) {
             stream.from = stream.other_from(random);
         }
@@ -67,7 +67,7 @@ impl Stream {
             _ => random.below(all + 1),
         };
         let owed = if taken == 0 || taken == all { random.below(4) } else { 0 };
-        TlvFilled { taken: taken as u64, owed: owed as u32 }
+        TlvFilled { taken, owed }
     }
 
     pub fn data(&self) -> usize {
@@ -85,8 +85,8 @@ impl Stream {
 
     /// The packets and fillers that begin in the slots.
     pub fn pieces(&self) -> Vec<Piece> {
-        let (mut pieces, taken) = (Vec::new(), self.from.taken as usize);
-        let (mut octet, mut at) = (0, self.from.owed as usize);
+        let (mut pieces, taken) = (Vec::new(), self.from.taken);
+        let (mut octet, mut at) = (0, self.from.owed);
         for packet in &self.packets {
             let end = octet + packet.len();
             if octet >= taken {

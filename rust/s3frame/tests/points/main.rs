@@ -13,38 +13,33 @@ use s3frame::{ArrangedRegister, Constellation, Point, Refusal};
 type Answer = Result<[u32; 2], Refusal>;
 
 /// The answer of a call, which must be that of the second implementation.
-fn compared(ours: Result<Point, Refusal>, theirs: impl FnOnce(&mut [f32]) -> u8) -> Answer {
-    let mut point = [0.0; 2];
-    assert_eq!(u32::from(theirs(&mut point)), number(ours));
+fn compared(ours: Result<Point, Refusal>, theirs: Result<points::Point, u8>) -> Answer {
     let answer = ours.map(bits);
-    assert!(answer.map_or(true, |found| found == point.map(f32::to_bits)), "the points differ");
+    assert_eq!(answer.map_err(|refusal| refusal as u8), theirs);
     answer
 }
 
 /// The point of a label both ways.
 fn point(lists: &Lists, label: u8, symbol: u32) -> Answer {
     let Constellation { modulation, in_phase, quadrature } = lists.lent();
-    compared(lists.lent().point(label, symbol), |point| {
-        points::point(modulation as usize, label.into(), symbol, in_phase, quadrature, point)
-    })
+    let expected = points::point(modulation as usize, label.into(), symbol, in_phase, quadrature);
+    compared(lists.lent().point(label, symbol), expected)
 }
 
 /// The point of a label in the arrangement signal both ways.
 fn arranged_point(lists: &Lists, label: u8, symbol: u32, at: ArrangedRegister) -> Answer {
     let Constellation { modulation, in_phase, quadrature } = lists.lent();
     let (number, ArrangedRegister { mask, register }) = (modulation as usize, at);
-    compared(lists.lent().arranged_point(label, symbol, at), |point| {
-        points::arranged_point(number, label.into(), symbol, in_phase, quadrature, mask, register, point)
-    })
+    let expected = points::arranged_point(number, label.into(), symbol, in_phase, quadrature, mask, register);
+    compared(lists.lent().arranged_point(label, symbol, at), expected)
 }
 
 /// The register one step on both ways.
 fn stepped(at: ArrangedRegister) -> Result<ArrangedRegister, Refusal> {
-    let mut next = [9];
-    let expected = points::arranged_step(at.mask, at.register, &mut next);
     let answer = at.arranged_step();
-    assert_eq!(number(answer), expected.into());
-    assert_eq!(answer.map_or([0, at.mask], |after| [after.register, after.mask]), [next[0], at.mask]);
+    let expected = points::arranged_step(at.mask, at.register);
+    let expected = expected.map(|register| ArrangedRegister { mask: at.mask, register });
+    assert_eq!(answer.map_err(|refusal| refusal as u8), expected);
     answer
 }
 

@@ -3,20 +3,19 @@ use crate::calls;
 use crate::common::faults::{self, Faults};
 use crate::common::words::{turned, Word, NO_POSITION};
 use crate::common::{code, trials, Random};
-use crate::slots::position_left;
 use crate::ways::{alone_and_in_pairs, cut, with_choices, Way};
 use crate::{compared, kept};
-use reference::{slot, tmcc};
+use reference::slot::{self, Refused};
+use reference::tmcc;
 use s3frame::{Rate, TmccSettings};
 
-/// What both calls on a TMCC block are lent; the position is the reader's alone.
+/// What both calls on a TMCC block are lent.
 struct Block {
     mask: u32,
     start: u32,
     table: Vec<u16>,
     source: Vec<u8>,
     block: Vec<u8>,
-    position: Vec<u16>,
 }
 
 impl Block {
@@ -27,7 +26,7 @@ impl Block {
         let (mut source, mut block) = (random.source(tmcc::SOURCE_OCTETS), vec![0; tmcc::OCTETS]);
         source[tmcc::SOURCE_OCTETS - 1] &= 0xfc;
         assert_eq!(tmcc::code(mask, start, &table, &source, &mut block), 0);
-        Block { mask, start, table, source, block, position: random.numbers(1) }
+        Block { mask, start, table, source, block }
     }
 
     fn break_all(&mut self, random: &mut Random, faults: &Faults, lengths: &[&Way<Block>]) {
@@ -41,21 +40,14 @@ impl Block {
     }
 }
 
-/// The ways to 4 in both calls.
-const BOTH: &[Way<Block>] = &[
+/// The ways to 4.
+const LENGTHS: &[Way<Block>] = &[
     Way { of: "source", break_it: |lent| lent.source.clear() },
     Way { of: "source", break_it: |lent| cut(&mut lent.source) },
     Way { of: "source", break_it: |lent| lent.source.push(0) },
     Way { of: "block", break_it: |lent| lent.block.clear() },
     Way { of: "block", break_it: |lent| cut(&mut lent.block) },
     Way { of: "block", break_it: |lent| lent.block.push(0) },
-];
-
-/// The further ways in reading.
-const READING: &[Way<Block>] = &[
-    Way { of: "position", break_it: |lent| lent.position.clear() },
-    Way { of: "position", break_it: |lent| lent.position.push(8) },
-    Way { of: "position", break_it: |lent| lent.position.extend([8, 9]) },
 ];
 
 fn coded(random: &mut Random, faults: &Faults, lengths: &[&Way<Block>]) {
@@ -65,7 +57,7 @@ fn coded(random: &mut Random, faults: &Faults, lengths: &[&Way<Block>]) {
         lent.source[tmcc::SOURCE_OCTETS - 1] |= random.pick(&[1, 2, 3]);
     }
     lent.break_all(random, faults, lengths);
-    let Block { mask, start, table, source, block, .. } = lent;
+    let Block { mask, start, table, source, block } = lent;
     kept(
         faults.first(),
         &block,
@@ -76,7 +68,7 @@ fn coded(random: &mut Random, faults: &Faults, lengths: &[&Way<Block>]) {
 
 #[test]
 fn coding_a_block() {
-    with_choices(&mut Random::new(58), &[6, 4, 5, 11], trials(10), &alone_and_in_pairs(BOTH), coded);
+    with_choices(&mut Random::new(58), &[6, 4, 5, 11], trials(10), &alone_and_in_pairs(LENGTHS), coded);
 }
 
 /// Turns one of a block's dispersed bits round and makes the parity anew.
@@ -87,7 +79,7 @@ fn break_bch(random: &mut Random, code: &slot::Code, block: &[u8]) -> Vec<u8> {
     slot::octets_of(&bits)
 }
 
-/// Every answer writes a position of its length.
+/// With 8 alone there is a position.
 fn read(random: &mut Random, faults: &Faults, lengths: &[&Way<Block>]) {
     let (mut lent, mut failing) = (Block::new(random), NO_POSITION);
     let code = code(Rate::R1_2, &lent.table);
@@ -99,19 +91,20 @@ fn read(random: &mut Random, faults: &Faults, lengths: &[&Way<Block>]) {
         (lent.block, failing) = random.with_broken_parity(&Word::block(&code), &lent.block);
     }
     lent.break_all(random, faults, lengths);
-    let Block { mask, start, table, source, block, position } = lent;
-    let (left, told) = compared(
+    let Block { mask, start, table, source, block } = lent;
+    let (position, _) = compared(
         faults.first(),
-        &(source.clone(), position.clone()),
-        |(source, position)| calls::read_tmcc(mask, start, &table, &block, source, position),
-        |(source, position)| tmcc::read(mask, start, &table, &block, source, position),
+        &source,
+        |source| {
+            let told = calls::read_tmcc(mask, start, &table, &block, source);
+            (told.number, told.position)
+        },
+        |source| Refused::told(&tmcc::read(mask, start, &table, &block, source)),
     );
-    assert!(faults.first() == 0 || left == source, "a refusal leaves the source");
-    assert_eq!(told, position_left(position, faults.first(), failing));
+    assert_eq!(position, if faults.first() == 8 { failing } else { NO_POSITION });
 }
 
 #[test]
 fn reading_a_block() {
-    let lengths = alone_and_in_pairs(BOTH.iter().chain(READING));
-    with_choices(&mut Random::new(59), &[6, 4, 5, 8, 9], trials(5), &lengths, read);
+    with_choices(&mut Random::new(59), &[6, 4, 5, 8, 9], trials(5), &alone_and_in_pairs(LENGTHS), read);
 }

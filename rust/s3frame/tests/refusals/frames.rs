@@ -2,13 +2,14 @@
 //! file of their own.
 use crate::calls;
 use crate::common::faults::{self, Faults};
-use crate::common::{groups, trials, Random, Told};
-use crate::states::Lent;
+use crate::common::plans::Handed;
+use crate::common::{trials, Random, Told};
+use crate::states::{raw, Lent};
 use crate::ways::{alone_and_in_pairs, cut, with_choices, Way};
 use crate::{compared, kept};
 use reference::frame;
-use reference::plan::of_octets;
-use s3frame::{Modulation, Plan, Rate, SlotSettings, SLOTS};
+use reference::plan::source_octets;
+use s3frame::{Modulation, Rate, SlotSettings, SLOTS};
 
 /// What a reading call writes: what it reads, and three numbers for each slot.
 #[derive(Clone, PartialEq)]
@@ -27,15 +28,15 @@ impl Areas {
     }
 
     /// Reads a frame into them.
-    fn read(&mut self, plan: &[u8], settings: SlotSettings, tables: &[u16], coded: &[u8]) -> u32 {
+    fn read(&mut self, plan: &Handed, settings: SlotSettings, tables: &[u16], coded: &[u8]) -> u8 {
         let (Areas { source, answers, stuff, positions }, SlotSettings { mask, start }) = (self, settings);
-        calls::read_frame(plan, mask, start, tables, coded, source, answers, stuff, positions)
+        calls::read_frame(raw(plan), mask, start, tables, coded, source, answers, stuff, positions)
     }
 
     /// The same by the second implementation.
-    fn read_by_reference(&mut self, plan: &[u8], settings: SlotSettings, tables: &[u16], coded: &[u8]) -> u8 {
+    fn read_by_reference(&mut self, plan: &Handed, settings: SlotSettings, tables: &[u16], coded: &[u8]) -> u8 {
         let (Areas { source, answers, stuff, positions }, SlotSettings { mask, start }) = (self, settings);
-        frame::read(&of_octets(plan), mask, start, tables, coded, source, answers, stuff, positions)
+        frame::read(&plan.twin(), mask, start, tables, coded, source, answers, stuff, positions)
     }
 
     /// What they tell of each slot.
@@ -56,12 +57,12 @@ impl Frame {
     /// Octets of chance, with the faults asked for.
     fn new(random: &mut Random, faults: &Faults, lengths: &[&Way<Frame>]) -> Frame {
         let (lent, _) = Lent::new(random, true);
-        let plan = Plan::of_octets(&lent.plan).expect("a plan that keeps the rules");
-        let tables = random.tables(&plan).concat();
-        let (coded, areas) = (random.octets(frame::OCTETS), Areas::new(random, plan.source_octets()));
+        let groups = lent.plan.twin();
+        let rates: Vec<Rate> = groups.iter().map(|group| Rate::ALL[group.rate - 1]).collect();
+        let tables = rates.iter().flat_map(|&rate| random.table(rate)).collect();
+        let (coded, areas) = (random.octets(frame::OCTETS), Areas::new(random, source_octets(&groups)));
         let mut frame = Frame { lent, tables, coded, areas };
         if faults.has(5) {
-            let rates: Vec<Rate> = plan.groups().map(|group| group.rate).collect();
             faults::break_tables(random, &rates, &mut frame.tables);
         }
         lengths.iter().for_each(|way| (way.break_it)(&mut frame));
@@ -95,12 +96,11 @@ const READING: &[Way<Frame>] = &[
 
 fn coded(random: &mut Random, faults: &Faults, lengths: &[&Way<Frame>]) {
     let Frame { lent: Lent { plan, mask, start, .. }, tables, coded, areas } = Frame::new(random, faults, lengths);
-    let groups = of_octets(&plan);
     kept(
         faults.first(),
         &coded,
-        |coded| calls::code_frame(&plan, mask, start, &tables, &areas.source, coded),
-        |coded| frame::code(&groups, mask, start, &tables, &areas.source, coded),
+        |coded| calls::code_frame(raw(&plan), mask, start, &tables, &areas.source, coded),
+        |coded| frame::code(&plan.twin(), mask, start, &tables, &areas.source, coded),
     );
 }
 
@@ -136,17 +136,18 @@ fn what_is_told_of_the_slots_of_a_frame() {
     for _ in 0..trials(3) {
         let (rate, settings) = (random.rate(), random.slot_settings());
         let plan = random.plan_with(Modulation::Qpsk, rate);
-        let (groups, lent, source) = (groups(&plan), random.tables(&plan), random.source(plan.source_octets()));
+        let (lent, source) = (random.tables(&plan), random.source(plan.source_octets()));
         let (tables, mut coded) = (lent.concat(), random.octets(frame::OCTETS));
-        assert_eq!(frame::code(&groups, settings.mask, settings.start, &tables, &source, &mut coded), 0);
+        let handed = Handed::new(&mut random, &plan);
+        assert_eq!(frame::code(&handed.twin(), settings.mask, settings.start, &tables, &source, &mut coded), 0);
         let expected = random.receive_frame(&plan, &lent, &mut coded);
-        let left = compared(
+        let (_, areas) = compared(
             0,
             &Areas::new(&mut random, source.len()),
-            |areas| areas.read(plan.octets(), settings, &tables, &coded),
-            |areas| areas.read_by_reference(plan.octets(), settings, &tables, &coded),
+            |areas| (areas.read(&handed, settings, &tables, &coded), ()),
+            |areas| (areas.read_by_reference(&handed, settings, &tables, &coded), ()),
         );
-        assert!(left.answers.iter().all(|answer| [0, 2, 8, 9].contains(answer)));
-        assert_eq!(left.told(), expected);
+        assert!(areas.answers.iter().all(|answer| [0, 2, 8, 9].contains(answer)));
+        assert_eq!(areas.told(), expected);
     }
 }

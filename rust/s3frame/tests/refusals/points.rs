@@ -1,23 +1,22 @@
-//! Signal points. A refusal leaves what points are written to, bit for bit; the register that is stepped is written by every
-//! answer, 0 by a refusal.
+//! Signal points. The coordinates and the register of a refusal are zeros, bit for bit.
+use crate::bindings::s3_point_answer;
 use crate::calls;
 use crate::common::faults::{self, choices, Faults};
 use crate::common::points::{Floats, Lists};
 use crate::common::{trials, Random};
 use crate::ways::{alone_and_in_pairs, cut, with_choices, Way};
-use crate::{compared, kept};
+use crate::{answered, kept, told};
 use reference::points;
 use s3frame::{ArrangedRegister, Modulation};
 
-/// What the calls on points are lent; of these, label and point are for a lone one, labels and both areas for many, and mask
-/// and register for the arrangement signal.
+/// What the calls on points are lent; of these, the label is for a lone one, labels and both areas for many, and mask and
+/// register for the arrangement signal.
 struct Lent {
     modulation: u32,
     symbol: u32,
     in_phase: Vec<f32>,
     quadrature: Vec<f32>,
     label: u32,
-    point: Floats,
     labels: Vec<u8>,
     i_out: Floats,
     q_out: Floats,
@@ -58,9 +57,9 @@ impl Lent {
         }
         let [Floats(in_phase), Floats(quadrature)] = lists.coordinates;
         let (symbol, ArrangedRegister { mask, register }) = (random.symbol(modulation), random.arranged_register());
-        let [point, i_out, q_out] = [2, count, count].map(|count| random.floats(count));
+        let [i_out, q_out] = [count, count].map(|count| random.floats(count));
         let (modulation, label) = (modulation.number(), label.into());
-        Lent { modulation, symbol, in_phase, quadrature, label, point, labels, i_out, q_out, mask, register }
+        Lent { modulation, symbol, in_phase, quadrature, label, labels, i_out, q_out, mask, register }
     }
 
     /// 12: a lone label with a bit more, and such a label among the many.
@@ -86,13 +85,6 @@ const ALL: &[Way<Lent>] = &[
     Way { of: "symbol", break_it: |lent| lent.symbol = 0 },
 ];
 
-/// The further ways with a lone label.
-const LONE: &[Way<Lent>] = &[
-    Way { of: "point", break_it: |lent| lent.point.0.clear() },
-    Way { of: "point", break_it: |lent| cut(&mut lent.point.0) },
-    Way { of: "point", break_it: |lent| lent.point.0.push(0.5) },
-];
-
 /// The further ways with many.
 const MANY: &[Way<Lent>] = &[
     Way { of: "I", break_it: |lent| lent.i_out.0.clear() },
@@ -103,26 +95,25 @@ const MANY: &[Way<Lent>] = &[
     Way { of: "Q", break_it: |lent| lent.q_out.0.push(0.5) },
 ];
 
+/// A number, and the coordinates by their bits.
+fn parts(answer: s3_point_answer) -> (u8, points::Point) {
+    (answer.number, [answer.i, answer.q].map(f32::to_bits))
+}
+
 fn lone(random: &mut Random, faults: &Faults, lengths: &[&Way<Lent>]) {
-    let Lent { modulation, symbol, in_phase, quadrature, label, point, .. } = Lent::new(random, faults, lengths);
-    kept(
-        faults.first(),
-        &point,
-        |point| calls::point(modulation, label, symbol, &in_phase, &quadrature, &mut point.0),
-        |point| points::point(modulation as usize, label, symbol, &in_phase, &quadrature, &mut point.0),
-    );
+    let Lent { modulation, symbol, in_phase, quadrature, label, .. } = Lent::new(random, faults, lengths);
+    let expected = points::point(modulation as usize, label, symbol, &in_phase, &quadrature);
+    let answer = calls::point(modulation, label, symbol, &in_phase, &quadrature);
+    answered(faults.first(), parts(answer), told(expected, [0, 0]));
 }
 
 fn arranged(random: &mut Random, faults: &Faults, lengths: &[&Way<Lent>]) {
     let lent = Lent::new(random, faults, lengths);
     let Lent { modulation, label, symbol, mask, register, .. } = lent;
     let (i, q) = (&lent.in_phase, &lent.quadrature);
-    kept(
-        faults.first(),
-        &lent.point,
-        |point| calls::arranged_point(modulation, label, symbol, i, q, mask, register, &mut point.0),
-        |point| points::arranged_point(modulation as usize, label, symbol, i, q, mask, register, &mut point.0),
-    );
+    let expected = points::arranged_point(modulation as usize, label, symbol, i, q, mask, register);
+    let answer = calls::arranged_point(modulation, label, symbol, i, q, mask, register);
+    answered(faults.first(), parts(answer), told(expected, [0, 0]));
 }
 
 fn many(random: &mut Random, faults: &Faults, lengths: &[&Way<Lent>]) {
@@ -139,14 +130,12 @@ fn many(random: &mut Random, faults: &Faults, lengths: &[&Way<Lent>]) {
 
 #[test]
 fn a_point() {
-    let lengths = alone_and_in_pairs(ALL.iter().chain(LONE));
-    with_choices(&mut Random::new(76), &[1, 4, 12, 18], trials(100), &lengths, lone);
+    with_choices(&mut Random::new(76), &[1, 4, 12, 18], trials(100), &alone_and_in_pairs(ALL), lone);
 }
 
 #[test]
 fn an_arranged_point() {
-    let lengths = alone_and_in_pairs(ALL.iter().chain(LONE));
-    with_choices(&mut Random::new(77), &[1, 6, 4, 12, 18], trials(100), &lengths, arranged);
+    with_choices(&mut Random::new(77), &[1, 6, 4, 12, 18], trials(100), &alone_and_in_pairs(ALL), arranged);
 }
 
 #[test]
@@ -158,23 +147,13 @@ fn points_of_labels() {
 #[test]
 fn stepping_the_register() {
     let mut random = Random::new(79);
-    for faults in choices(&[6, 4], trials(100)) {
+    for faults in choices(&[6], trials(200)) {
         let ArrangedRegister { mut mask, mut register } = random.arranged_register();
-        let mut found = vec![random.next() as u32 | 1];
-        if faults.has(4) {
-            faults::break_length(&mut random, &mut found);
-        }
         if faults.has(6) {
             faults::break_settings(&mut random, 15, &mut mask, &mut register);
         }
-        let next = compared(
-            faults.first(),
-            &found,
-            |next| calls::arranged_step(mask, register, next),
-            |next| points::arranged_step(mask, register, next),
-        );
-        if faults.first() != 0 {
-            assert_eq!(next, if faults.has(4) { found } else { vec![0] });
-        }
+        let stepped = calls::arranged_step(mask, register);
+        let expected = told(points::arranged_step(mask, register), 0);
+        answered(faults.first(), (stepped.number, stepped.register_), expected);
     }
 }

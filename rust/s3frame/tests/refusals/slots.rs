@@ -1,22 +1,13 @@
 //! One slot of header and data, and the lone parity check.
+use crate::bindings::s3_state;
 use crate::calls;
 use crate::common::faults::{self, plan_choices, Faults};
 use crate::common::words::NO_POSITION;
 use crate::common::{code, stuffed, trials, Random};
-use crate::states::Lent;
+use crate::states::{parts, Lent};
 use crate::ways::{alone_and_in_pairs, cut, with_choices, Way};
-use crate::{compared, kept};
-use reference::plan::of_octets;
-use reference::slot;
-use s3frame::Rate;
-
-/// Breaks the length of one of a slot call's areas, so that each is tested alone.
-pub fn break_one_length(random: &mut Random, areas: &mut [&mut Vec<u8>], next: &mut Vec<u32>) {
-    match random.below(areas.len() + 1) {
-        0 => faults::break_length(random, next),
-        _ => faults::break_one_length(random, areas),
-    }
-}
+use crate::{answered, compared, told};
+use reference::slot::{self, Refused, NO_STUFF};
 
 #[test]
 fn coding_a_slot() {
@@ -29,15 +20,18 @@ fn coding_a_slot() {
             faults::break_tables(&mut random, &[rate], &mut table);
         }
         if faults.has(4) {
-            break_one_length(&mut random, &mut [&mut source, &mut coded], &mut lent.next);
+            faults::break_one_length(&mut random, &mut [&mut source, &mut coded]);
         }
         lent.break_state(&mut random, &faults, true);
-        let plan = of_octets(&lent.plan);
-        kept(
+        let plan = lent.plan.twin();
+        compared(
             faults.first(),
-            &(coded, lent.next.clone()),
-            |(coded, next)| calls::code_slot(lent.at(), &table, &source, coded, next),
-            |(coded, next)| reference::calls::code_slot(&lent.state(&plan), &table, &source, coded, next),
+            &coded,
+            |coded| parts(calls::code_slot(lent.raw(), &table, &source, coded)),
+            |coded| {
+                let state = reference::calls::code_slot(&lent.twin(&plan), &table, &source, coded);
+                told(state.map(|state| lent.after(&state)), lent.raw())
+            },
         );
     }
 }
@@ -48,34 +42,25 @@ fn received(random: &mut Random, faults: &Faults, code: &slot::Code, sound: &[u8
     asked.fold((sound.to_vec(), NO_POSITION), |(slot, _), number| random.damaged(code, &slot, number))
 }
 
-/// What a reading call writes: what it reads, in one area or two, its report and the state after it.
-#[derive(Clone, PartialEq)]
-pub struct Areas {
-    pub read: Vec<Vec<u8>>,
-    pub report: Vec<u16>,
-    pub next: Vec<u32>,
-}
+/// What comes back from reading with its number: the state after it, the stuff bits and the failing position.
+type Back = (s3_state, u8, u16);
 
-/// What a reading call is lent, the areas as found among it, and what it must leave in them: where it accepts, and the failing
+/// What reading a slot is lent, the source as found among it, and what it must give where it is accepted; and the failing
 /// position where the parity is what it refuses.
-pub struct Reading {
-    pub lent: Lent,
-    pub table: Vec<u16>,
-    pub coded: Vec<u8>,
-    pub found: Areas,
-    accepted: Areas,
+struct Reading {
+    lent: Lent,
+    table: Vec<u16>,
+    coded: Vec<u8>,
+    found: Vec<u8>,
+    source: Vec<u8>,
+    stuff: u8,
+    register: u32,
     failing: u16,
 }
 
 impl Reading {
-    /// A slot with any stuff bits, and all that is lent with it, with the faults asked for; `areas` says what is read of a
-    /// source at a rate.
-    pub fn new(
-        random: &mut Random,
-        faults: &Faults,
-        lengths: &[&Way<Reading>],
-        areas: fn(Rate, &[u8]) -> Vec<Vec<u8>>,
-    ) -> Reading {
+    /// A slot with any stuff bits, and all that is lent with it, with the faults asked for.
+    fn new(random: &mut Random, faults: &Faults, lengths: &[&Way<Reading>]) -> Reading {
         let (lent, rate) = Lent::new(random, true);
         let mut table = random.table(rate);
         let (code, stuff) = (code(rate, &table), random.stuff());
@@ -85,68 +70,62 @@ impl Reading {
         if faults.has(5) {
             faults::break_tables(random, &[rate], &mut table);
         }
-        let read = areas(rate, &source);
-        let found = read.iter().map(|area| random.octets(area.len())).collect();
-        let found = Areas { read: found, report: random.numbers(2), next: lent.next.clone() };
-        let accepted = Areas { read, report: vec![stuff.into(), NO_POSITION], next: vec![lent.slot + 1, register] };
-        let mut reading = Reading { lent, table, coded, found, accepted, failing };
+        let found = random.octets(source.len());
+        let mut reading = Reading { lent, table, coded, found, source, stuff, register, failing };
         lengths.iter().for_each(|way| (way.break_it)(&mut reading));
         reading.lent.break_state(random, faults, true);
         reading
     }
 
-    /// What the call must leave where it answers this number. 8 and 9 move on, and every refusal writes a report of its
-    /// length.
-    pub fn left(&self, number: u8) -> Areas {
-        let Areas { read, report, next } = self.found.clone();
-        let position = if number == 8 { self.failing } else { NO_POSITION };
-        let report = if report.len() == 2 { vec![255, position] } else { report };
+    /// What the call must give back where it answers this number: 8 and 9 move on, and no other refusal does.
+    fn back(&self, number: u8) -> Back {
+        let lent = self.lent.raw();
+        let moved = s3_state { slot: lent.slot.wrapping_add(1), register_: self.register, ..lent };
         match number {
-            0 => self.accepted.clone(),
-            8 | 9 => Areas { read, report, next: self.accepted.next.clone() },
-            _ => Areas { read, report, next },
+            0 => (moved, self.stuff, NO_POSITION),
+            8 => (moved, NO_STUFF, self.failing),
+            9 => (moved, NO_STUFF, NO_POSITION),
+            _ => (lent, NO_STUFF, NO_POSITION),
         }
+    }
+
+    /// Reads the slot into a source.
+    fn read(&self, source: &mut [u8]) -> (u8, Back) {
+        let told = calls::read_slot(self.lent.raw(), &self.table, &self.coded, source);
+        (told.number, (told.state, told.stuff, told.position))
+    }
+
+    /// The same by the second implementation.
+    fn read_by_reference(&self, source: &mut [u8]) -> (u8, Back) {
+        let plan = self.lent.plan.twin();
+        let (read, state) = reference::calls::read_slot(&self.lent.twin(&plan), &self.table, &self.coded, source);
+        let (number, position) = Refused::told(&read);
+        (number, (self.lent.after(&state), read.unwrap_or(NO_STUFF), position))
     }
 }
 
-/// The numbers of a reading call in their order.
-pub const NUMBERS: [u8; 11] = [1, 13, 14, 15, 6, 3, 2, 4, 5, 8, 9];
-
-/// The ways to 4 in a reading call.
-pub const READING: &[Way<Reading>] = &[
+/// The ways to 4 in reading.
+const READING: &[Way<Reading>] = &[
     Way { of: "coded", break_it: |lent| lent.coded.clear() },
     Way { of: "coded", break_it: |lent| cut(&mut lent.coded) },
     Way { of: "coded", break_it: |lent| lent.coded.push(0) },
-    Way { of: "first area", break_it: |lent| lent.found.read[0].clear() },
-    Way { of: "first area", break_it: |lent| cut(&mut lent.found.read[0]) },
-    Way { of: "first area", break_it: |lent| lent.found.read[0].push(0) },
-    Way { of: "report", break_it: |lent| lent.found.report.clear() },
-    Way { of: "report", break_it: |lent| cut(&mut lent.found.report) },
-    Way { of: "report", break_it: |lent| lent.found.report.push(8) },
-    Way { of: "report", break_it: |lent| lent.found.report.extend([8, 9]) },
-    Way { of: "next", break_it: |lent| lent.found.next.clear() },
-    Way { of: "next", break_it: |lent| cut(&mut lent.found.next) },
-    Way { of: "next", break_it: |lent| lent.found.next.push(7) },
+    Way { of: "source", break_it: |lent| lent.found.clear() },
+    Way { of: "source", break_it: |lent| cut(&mut lent.found) },
+    Way { of: "source", break_it: |lent| lent.found.push(0) },
 ];
 
 fn read(random: &mut Random, faults: &Faults, lengths: &[&Way<Reading>]) {
-    let reading = Reading::new(random, faults, lengths, |_, source| vec![source.to_vec()]);
-    let Reading { lent, table, coded, found, .. } = &reading;
-    let plan = of_octets(&lent.plan);
-    let left = compared(
-        faults.first(),
-        found,
-        |Areas { read, report, next }| calls::read_slot(lent.at(), table, coded, &mut read[0], report, next),
-        |Areas { read, report, next }| {
-            reference::calls::read_slot(&lent.state(&plan), table, coded, &mut read[0], report, next)
-        },
-    );
-    assert!(left == reading.left(faults.first()));
+    let (reading, number) = (Reading::new(random, faults, lengths), faults.first());
+    let (back, left) =
+        compared(number, &reading.found, |source| reading.read(source), |source| reading.read_by_reference(source));
+    assert_eq!(back, reading.back(number));
+    assert!(number != 0 || left == reading.source, "the source comes back");
 }
 
 #[test]
 fn reading_a_slot() {
-    with_choices(&mut Random::new(54), &NUMBERS, trials(1), &alone_and_in_pairs(READING), read);
+    let numbers = [1, 13, 14, 15, 6, 3, 2, 4, 5, 8, 9];
+    with_choices(&mut Random::new(54), &numbers, trials(1), &alone_and_in_pairs(READING), read);
 }
 
 /// What the lone parity check is lent.
@@ -154,7 +133,6 @@ struct Check {
     rate: u32,
     table: Vec<u16>,
     coded: Vec<u8>,
-    position: Vec<u16>,
 }
 
 /// The ways to 4 in the lone parity check.
@@ -162,19 +140,16 @@ const CHECKING: &[Way<Check>] = &[
     Way { of: "coded", break_it: |lent| lent.coded.clear() },
     Way { of: "coded", break_it: |lent| cut(&mut lent.coded) },
     Way { of: "coded", break_it: |lent| lent.coded.push(0) },
-    Way { of: "position", break_it: |lent| lent.position.clear() },
-    Way { of: "position", break_it: |lent| lent.position.push(8) },
-    Way { of: "position", break_it: |lent| lent.position.extend([8, 9]) },
 ];
 
-/// Checks a slot of chance with the faults asked for. Every answer writes a position of its length.
+/// Checks a slot of chance with the faults asked for. With 8 alone there is a position.
 fn check(random: &mut Random, faults: &Faults, lengths: &[&Way<Check>]) {
     let rate = random.rate();
     let table = random.table(rate);
     let code = code(rate, &table);
     let sound = reference::vectors::with_parity_anew(&code, &random.octets(slot::OCTETS));
     let (coded, failing) = received(random, faults, &code, &sound);
-    let mut lent = Check { rate: rate.number(), table, coded, position: random.numbers(1) };
+    let mut lent = Check { rate: rate.number(), table, coded };
     if faults.has(5) {
         faults::break_tables(random, &[rate], &mut lent.table);
     }
@@ -182,23 +157,11 @@ fn check(random: &mut Random, faults: &Faults, lengths: &[&Way<Check>]) {
     if faults.has(1) {
         faults::unknown(random, &mut lent.rate, 11);
     }
-    let Check { rate, table, coded, position } = lent;
-    let left = compared(
-        faults.first(),
-        &position,
-        |position| calls::check_parity(rate, &table, &coded, position),
-        |position| reference::calls::check_parity(rate as usize, &table, &coded, position),
-    );
-    assert_eq!(left, position_left(position, faults.first(), failing));
-}
-
-/// What a call must leave of an area for a position where it answers this number.
-pub fn position_left(found: Vec<u16>, number: u8, failing: u16) -> Vec<u16> {
-    match (found.len(), number) {
-        (1, 8) => vec![failing],
-        (1, _) => vec![NO_POSITION],
-        _ => found,
-    }
+    let Check { rate, table, coded } = lent;
+    let checked = calls::check_parity(rate, &table, &coded);
+    let expected = Refused::told(&reference::calls::check_parity(rate as usize, &table, &coded));
+    answered(faults.first(), (checked.number, checked.position), expected);
+    assert_eq!(checked.position, if faults.first() == 8 { failing } else { NO_POSITION });
 }
 
 #[test]

@@ -1,41 +1,63 @@
-//! Opening a frame and passing a dummy, and what every call at a place of a frame is lent.
-use crate::calls::{self, At};
+//! Opening a frame and passing a dummy, and what every call at a place of a frame is handed.
+use crate::bindings::{s3_answer, s3_plan, s3_state};
+use crate::calls;
 use crate::common::faults::{self, plan_choices, Faults};
+use crate::common::plans::Handed;
 use crate::common::{trials, Random};
-use crate::{compared, kept};
+use crate::{answered, told};
 use reference::calls::State;
-use reference::plan::{of_octets, places, Group};
+use reference::plan::{places, Group};
 use s3frame::{Modulation, Rate, SlotSettings};
 
-/// What a call at a place of a frame is lent. `next` is filled so that what is left as found shows.
+/// What a call at a place of a frame is handed.
 pub struct Lent {
-    pub plan: Vec<u8>,
+    pub plan: Handed,
     pub mask: u32,
     pub start: u32,
-    pub slot: u32,
+    pub slot: u16,
     pub register: u32,
-    pub next: Vec<u32>,
+}
+
+/// A plan as our calls take it.
+pub fn raw(plan: &Handed) -> s3_plan {
+    let places = plan.places();
+    let [modulation, rate, slots] = [0, 1, 2].map(|number| places.map(|three| three[number]));
+    s3_plan { count: plan.count, modulation, rate, slots }
+}
+
+/// A number and the state that comes back with it.
+pub fn parts(answer: s3_answer) -> (u8, s3_state) {
+    (answer.number, answer.state)
 }
 
 impl Lent {
     /// A state at a slot that carries data, or at a dummy, of a plan that has both; and the slot's rate.
     pub fn new(random: &mut Random, data: bool) -> (Lent, Rate) {
         let (modulation, rate) = (random.pick(&Modulation::ALL[..4]), random.rate());
-        let plan = random.plan_with(modulation, rate).octets().to_vec();
+        let plan = random.plan_with(modulation, rate);
+        let plan = Handed::new(random, &plan);
         let SlotSettings { mask, start } = random.slot_settings();
-        let (slot, rate) = slot_at(random, &of_octets(&plan), data);
-        let [register, next] = [random.register(25), random.next() as u32];
-        (Lent { plan, mask, start, slot, register, next: vec![next, !next] }, rate)
+        let (slot, rate) = slot_at(random, &plan.twin(), data);
+        let register = random.register(25);
+        (Lent { plan, mask, start, slot, register }, rate)
     }
 
     /// The state as our calls take it.
-    pub fn at(&self) -> At<'_> {
-        At { plan: &self.plan, mask: self.mask, start: self.start, slot: self.slot, register: self.register }
+    pub fn raw(&self) -> s3_state {
+        let s3_plan { count, modulation, rate, slots } = raw(&self.plan);
+        let &Lent { mask, start, slot, register, .. } = self;
+        s3_state { count, modulation, rate, slots, mask, start, slot, register_: register }
     }
 
     /// The state as the second implementation takes it.
-    pub fn state<'a>(&self, plan: &'a [Group]) -> State<'a> {
-        State { plan, mask: self.mask, start: self.start, slot: self.slot, register: self.register }
+    pub fn twin<'a>(&self, plan: &'a [Group]) -> State<'a> {
+        State { plan, mask: self.mask, start: self.start, slot: self.slot.into(), register: self.register }
+    }
+
+    /// The state that the second implementation gives, as our calls give it: what stands behind the groups is still there.
+    pub fn after(&self, state: &State) -> s3_state {
+        let State { mask, start, slot, register, .. } = *state;
+        s3_state { mask, start, slot: slot as u16, register_: register, ..self.raw() }
     }
 
     /// Breaks plan and settings as asked, for a call that takes no more of a state.
@@ -49,7 +71,7 @@ impl Lent {
     /// Breaks the state as asked: what is tested last is broken first, so that it cannot undo another fault.
     pub fn break_state(&mut self, random: &mut Random, faults: &Faults, data: bool) {
         if faults.has(2) {
-            (self.slot, _) = slot_at(random, &of_octets(&self.plan), !data);
+            (self.slot, _) = slot_at(random, &self.plan.twin(), !data);
         }
         if faults.has(3) {
             faults::past_slot(random, &mut self.slot);
@@ -65,55 +87,36 @@ impl Lent {
 }
 
 /// A slot of a plan that carries data or is a dummy, and its rate.
-fn slot_at(random: &mut Random, plan: &[Group], data: bool) -> (u32, Rate) {
+fn slot_at(random: &mut Random, plan: &[Group], data: bool) -> (u16, Rate) {
     let places = places(plan);
     let slots: Vec<usize> = (1..=places.len()).filter(|slot| places[slot - 1].data == data).collect();
     let slot = random.pick(&slots);
     let rate = Rate::from_number(plan[places[slot - 1].group].rate as u32);
-    (slot as u32, rate.expect("a known rate"))
+    (slot as u16, rate.expect("a known rate"))
 }
 
+/// The state of a refused opening is all zeros.
 #[test]
 fn opening() {
     let mut random = Random::new(51);
-    for faults in plan_choices(&[6, 4], trials(10)) {
+    for faults in plan_choices(&[6], trials(20)) {
         let (mut lent, _) = Lent::new(&mut random, true);
-        if faults.has(4) {
-            faults::break_length(&mut random, &mut lent.next);
-        }
         lent.break_frame(&mut random, &faults);
-        let (mask, start, plan) = (lent.mask, lent.start, of_octets(&lent.plan));
-        let left = compared(
-            faults.first(),
-            &lent.next,
-            |next| calls::open(&lent.plan, mask, start, next),
-            |next| reference::calls::open(&plan, mask, start, next),
-        );
-        // The state of a refused opening is all zeros.
-        let expected = match faults.first() {
-            _ if faults.has(4) => lent.next,
-            0 => vec![1, start],
-            _ => vec![0, 0],
-        };
-        assert_eq!(left, expected);
+        let (mask, start, plan) = (lent.mask, lent.start, lent.plan.twin());
+        let opened = reference::calls::open(&plan, mask, start).map(|state| lent.after(&state));
+        let expected = told(opened, s3_state::default());
+        answered(faults.first(), parts(calls::open(raw(&lent.plan), mask, start)), expected);
     }
 }
 
 #[test]
 fn passing() {
     let mut random = Random::new(52);
-    for faults in plan_choices(&[6, 3, 2, 4], trials(4)) {
+    for faults in plan_choices(&[6, 3, 2], trials(8)) {
         let (mut lent, _) = Lent::new(&mut random, false);
-        if faults.has(4) {
-            faults::break_length(&mut random, &mut lent.next);
-        }
         lent.break_state(&mut random, &faults, false);
-        let plan = of_octets(&lent.plan);
-        kept(
-            faults.first(),
-            &lent.next,
-            |next| calls::pass(lent.at(), next),
-            |next| reference::calls::pass(&lent.state(&plan), next),
-        );
+        let plan = lent.plan.twin();
+        let passed = reference::calls::pass(&lent.twin(&plan)).map(|state| lent.after(&state));
+        answered(faults.first(), parts(calls::pass(lent.raw())), told(passed, lent.raw()));
     }
 }

@@ -1,35 +1,20 @@
-//! TLV channels. What a call returns beside its number is written by every answer, zeros by a refusal.
+//! TLV channels. What comes back with a refusal is zeros.
 use crate::calls;
 use crate::common::faults::{self, break_packets, choices, Faults, PACKET_FAULTS};
 use crate::common::tlv::Stream;
 use crate::common::{trials, Random};
-use crate::compared;
 use crate::ways::{alone_and_in_pairs, Way};
+use crate::{compared, told};
 use s3frame::Rate;
-
-/// Two numbers that are not 0, so that what is left as found shows.
-fn found_next(random: &mut Random) -> Vec<u64> {
-    vec![random.next() | 1, random.next() | 1]
-}
-
-/// What a call must leave in `next`, where it is refused.
-fn refused_next(found: &[u64]) -> Vec<u64> {
-    if found.len() == 2 {
-        vec![0; 2]
-    } else {
-        found.to_vec()
-    }
-}
 
 /// What filling is lent.
 struct Filling {
     rate: u32,
     packets: Vec<u8>,
-    taken: u64,
-    owed: u32,
+    taken: usize,
+    owed: usize,
     slots: Vec<u8>,
     begins: Vec<u16>,
-    next: Vec<u64>,
 }
 
 impl Filling {
@@ -44,14 +29,13 @@ impl Filling {
         let taken = [0, packets.len(), random.below(packets.len() + 1)];
         let taken = random.pick(&taken);
         let owed = if taken == 0 || taken == packets.len() { random.below(4) } else { 0 };
-        let areas = (random.octets(slots * rate.data_octets()), random.numbers(slots), found_next(random));
-        let (rate, taken, owed) = (rate.number(), taken as u64, owed as u32);
-        Filling { rate, packets, taken, owed, slots: areas.0, begins: areas.1, next: areas.2 }
+        let (slots, begins) = (random.octets(slots * rate.data_octets()), random.numbers(slots));
+        Filling { rate: rate.number(), packets, taken, owed, slots, begins }
     }
 
     /// Owed octets of a filler between two octets of the packets.
-    fn owe_at(&mut self, taken: usize, owed: u32) {
-        (self.taken, self.owed) = (taken as u64, owed);
+    fn owe_at(&mut self, taken: usize, owed: usize) {
+        (self.taken, self.owed) = (taken, owed);
     }
 }
 
@@ -64,19 +48,17 @@ const FILLING: &[Way<Filling>] = &[
     Way { of: "begins", break_it: |lent| lent.begins.truncate(lent.begins.len() - 1) },
     Way { of: "begins", break_it: |lent| lent.begins.push(0) },
     Way { of: "begins", break_it: |lent| lent.begins.clear() },
-    Way { of: "taken", break_it: |lent| lent.taken = lent.packets.len() as u64 + 1 },
+    Way { of: "taken", break_it: |lent| lent.taken = lent.packets.len() + 1 },
     Way { of: "taken", break_it: |lent| lent.taken |= 1 << 32 },
-    Way { of: "taken", break_it: |lent| lent.taken = u64::MAX },
+    Way { of: "taken", break_it: |lent| lent.taken = usize::MAX },
     Way { of: "owed", break_it: |lent| lent.owed = 4 },
     Way { of: "owed", break_it: |lent| lent.owed |= 1 << 8 },
     Way { of: "owed", break_it: |lent| lent.owed |= 1 << 16 },
-    Way { of: "owed", break_it: |lent| lent.owed = u32::MAX },
+    Way { of: "owed", break_it: |lent| lent.owed |= 1 << 32 },
+    Way { of: "owed", break_it: |lent| lent.owed = usize::MAX },
     Way { of: "owed", break_it: |lent| lent.owe_at(1, 1) },
     Way { of: "owed", break_it: |lent| lent.owe_at(lent.packets.len() / 2, 2) },
     Way { of: "owed", break_it: |lent| lent.owe_at(lent.packets.len() - 1, 3) },
-    Way { of: "next", break_it: |lent| lent.next.clear() },
-    Way { of: "next", break_it: |lent| lent.next.truncate(lent.next.len() - 1) },
-    Way { of: "next", break_it: |lent| lent.next.push(7) },
 ];
 
 fn fill_with(random: &mut Random, faults: &Faults, lengths: &[&Way<Filling>], wrong: Option<&str>) {
@@ -86,18 +68,16 @@ fn fill_with(random: &mut Random, faults: &Faults, lengths: &[&Way<Filling>], wr
     if faults.has(1) {
         faults::unknown(random, &mut lent.rate, 11);
     }
-    let Filling { rate, packets, taken, owed, slots, begins, next } = lent;
-    let found = ((slots, begins), next);
-    let (areas, next) = compared(
+    let Filling { rate, packets, taken, owed, slots, begins } = lent;
+    compared(
         faults.first(),
-        &found,
-        |((slots, begins), next)| calls::tlv_fill(rate, &packets, taken, owed, slots, begins, next),
-        |((slots, begins), next)| reference::tlv::fill(rate as usize, &packets, taken, owed, slots, begins, next),
+        &(slots, begins),
+        |(slots, begins)| {
+            let filled = calls::tlv_fill(rate, &packets, taken, owed, slots, begins);
+            (filled.number, (filled.taken, filled.owed))
+        },
+        |(slots, begins)| told(reference::tlv::fill(rate as usize, &packets, taken, owed, slots, begins), (0, 0)),
     );
-    if faults.first() != 0 {
-        assert!(areas == found.0, "a refusal changes no slot or report");
-        assert_eq!(next, refused_next(&found.1));
-    }
 }
 
 #[test]
@@ -121,7 +101,6 @@ struct Reading {
     lost: Vec<u8>,
     first: u32,
     packets: Vec<u8>,
-    next: Vec<u64>,
 }
 
 impl Reading {
@@ -130,14 +109,12 @@ impl Reading {
         let stream = Stream::new(random, rate);
         let (lent, from) = (stream.lent(), stream.from);
         let (mut slots, mut begins) = (vec![0; stream.room()], vec![0; stream.slots]);
-        let number =
-            reference::tlv::fill(rate as usize, &lent, from.taken, from.owed, &mut slots, &mut begins, &mut [0; 2]);
-        assert_eq!(number, 0);
+        let filled = reference::tlv::fill(rate as usize, &lent, from.taken, from.owed, &mut slots, &mut begins);
+        assert!(filled.is_ok());
         let lost = begins.iter().map(|_| random.chance(3).into()).collect();
         let firsts = [0, stream.data() - 1, 65_535, random.below(stream.data())];
         let (first, packets) = (random.pick(&firsts) as u32, random.octets(stream.room()));
-        let (rate, data, next) = (rate.number(), stream.data() as u32, found_next(random));
-        Reading { rate, data, slots, begins, lost, first, packets, next }
+        Reading { rate: rate.number(), data: stream.data() as u32, slots, begins, lost, first, packets }
     }
 
     /// Another report of the last slot.
@@ -189,9 +166,6 @@ const READING: &[Way<Reading>] = &[
     Way { of: "packets", break_it: |lent| lent.packets.truncate(lent.packets.len() - 1) },
     Way { of: "packets", break_it: |lent| lent.packets.push(0) },
     Way { of: "packets", break_it: |lent| lent.packets.clear() },
-    Way { of: "next", break_it: |lent| lent.next.clear() },
-    Way { of: "next", break_it: |lent| lent.next.truncate(lent.next.len() - 1) },
-    Way { of: "next", break_it: |lent| lent.next.push(7) },
 ];
 
 fn read_with(random: &mut Random, faults: &Faults, lengths: &[&Way<Reading>]) {
@@ -201,18 +175,16 @@ fn read_with(random: &mut Random, faults: &Faults, lengths: &[&Way<Reading>]) {
     if faults.has(1) {
         faults::unknown(random, &mut lent.rate, 11);
     }
-    let Reading { rate, slots, begins, lost, first, packets, next, .. } = lent;
-    let found = (packets, next);
-    let (packets, next) = compared(
+    let Reading { rate, slots, begins, lost, first, packets, .. } = lent;
+    compared(
         faults.first(),
-        &found,
-        |(packets, next)| calls::tlv_read(rate, &slots, &begins, &lost, first, packets, next),
-        |(packets, next)| reference::tlv::read(rate as usize, &slots, &begins, &lost, first, packets, next),
+        &packets,
+        |packets| {
+            let read = calls::tlv_read(rate, &slots, &begins, &lost, first, packets);
+            (read.number, (read.written, read.unfinished))
+        },
+        |packets| told(reference::tlv::read(rate as usize, &slots, &begins, &lost, first, packets), (0, 0)),
     );
-    if faults.first() != 0 {
-        assert!(packets == found.0, "a refusal changes no packet");
-        assert_eq!(next, refused_next(&found.1));
-    }
 }
 
 #[test]

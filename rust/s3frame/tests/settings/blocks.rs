@@ -12,6 +12,12 @@ fn allowed(width: u32, mask: u32, start: u32) -> bool {
     (1 << (width - 1)..1 << width).contains(&mask) && (1..1 << width).contains(&start)
 }
 
+/// The plan of three octets for each group.
+fn plan_of(octets: &[u8]) -> Result<Plan, Refusal> {
+    let line = |three: &[u8]| format!("{} {} {}\n", three[0], three[1], three[2]);
+    Plan::of_text(octets.chunks(3).map(line).collect::<String>().as_bytes())
+}
+
 /// What the octets of a block say, whatever its sum.
 fn said(block: &[u8]) -> Result<Settings, Refusal> {
     let end = 6 + 3 * usize::from(block[5]);
@@ -19,7 +25,7 @@ fn said(block: &[u8]) -> Result<Settings, Refusal> {
     if &block[..5] != b"S3PL\x01" || fillers.any(|&octet| octet != 0) {
         return Err(Refusal::Block);
     }
-    let plan = if end > 30 { Err(Refusal::Plan) } else { Plan::of_octets(&block[6..end]) }?;
+    let plan = if end > 30 { Err(Refusal::Plan) } else { plan_of(&block[6..end]) }?;
     let number = |place: usize| block[place..place + 4].iter().fold(0, |number, &octet| number << 8 | u32::from(octet));
     let slots = SlotSettings { mask: number(30), start: number(34) };
     let tmcc = TmccSettings { mask: number(38), start: number(42) };
@@ -51,7 +57,7 @@ fn word_of(random: &mut Random, block: &[u8]) -> &'static str {
 
 /// Whether every block of as many groups has the same octet there: mark, edition and fillers.
 fn fixed(kept: &Settings, octet: usize) -> bool {
-    octet < 5 || (6 + kept.plan.octets().len()..30).contains(&octet) || octet >= ZEROS
+    octet < 5 || (6 + 3 * kept.plan.groups().count()..30).contains(&octet) || octet >= ZEROS
 }
 
 #[test]

@@ -24,9 +24,9 @@ fn what_is_replaced_reads_back_and_the_other_blocks_stay() {
         let (blocks, number) = any_place(&mut random);
         let (kept, found) = (random.kept(), random.card(blocks));
         let mut card = found.clone();
-        assert_eq!(replace(&mut card, number as u32, &kept), Ok(()));
+        assert_eq!(replace(&mut card, number, &kept), Ok(()));
         assert!(at(&card, number) == block_of(&kept), "setting {kept:?}");
-        assert_eq!(read(&card, number as u32), Ok(kept));
+        assert_eq!(read(&card, number), Ok(kept));
         for other in (0..blocks).filter(|&other| other != number) {
             assert!(at(&card, other) == at(&found, other), "block {other} of {blocks}, where {number} is replaced");
         }
@@ -65,10 +65,10 @@ fn what_is_read_and_replaced_gives_the_octets_of_the_card() {
 }
 
 /// What both calls must answer for a card of right blocks.
-fn expected(octets: usize, number: u32) -> Result<(), Refusal> {
+fn expected(octets: usize, number: usize) -> Result<(), Refusal> {
     if octets % SETTING_OCTETS != 0 || octets > MOST_SETTINGS * SETTING_OCTETS {
         Err(Refusal::Length)
-    } else if number as usize >= octets / SETTING_OCTETS {
+    } else if number >= octets / SETTING_OCTETS {
         Err(Refusal::Block)
     } else {
         Ok(())
@@ -79,8 +79,9 @@ fn expected(octets: usize, number: u32) -> Result<(), Refusal> {
 fn cards_of_every_length() {
     let kept = Random::new(114).kept();
     let mut card = block_of(&kept).repeat(66);
-    // 2^23 blocks are 2^32 octets, which 32 bits do not hold.
-    let numbers = [0, 1, 2, 3, 62, 63, 64, 65, 255, 256, 65_536, 1 << 23, 1 << 23 | 1, 1 << 31, u32::MAX];
+    // 2^23 blocks are 2^32 octets, which 32 bits do not hold, and 2^55 blocks are 2^64.
+    let numbers =
+        [0, 1, 2, 3, 62, 63, 64, 65, 255, 256, 65_536, 1 << 23, 1 << 23 | 1, 1 << 32, 1 << 55, 1 << 55 | 1, usize::MAX];
     let around = (1..=66).flat_map(|blocks| (blocks * SETTING_OCTETS).saturating_sub(1)..=blocks * SETTING_OCTETS + 1);
     for octets in (0..=3 * SETTING_OCTETS).chain(around).filter(|&octets| octets <= 66 * SETTING_OCTETS) {
         for number in numbers {
@@ -114,7 +115,7 @@ fn registers_that_are_not_allowed() {
         let wrong = with_wrong_register(&mut random, &kept);
         let mut card = random.card(blocks);
         card[number * SETTING_OCTETS..][..SETTING_OCTETS].copy_from_slice(&block_of(&wrong));
-        let answers = [read(&card, number as u32).map(drop), replace(&mut card, number as u32, &wrong)];
+        let answers = [read(&card, number).map(drop), replace(&mut card, number, &wrong)];
         assert_eq!(answers, [Err(Refusal::Register); 2], "registers {:?}", registers(&wrong));
     }
 }

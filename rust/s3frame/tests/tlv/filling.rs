@@ -21,14 +21,14 @@ fn slots_hold_the_owed_octets_the_packets_and_fillers() {
     streams(&mut random, 250, |random, stream| {
         let (answer, (slots, begins)) = filled_stream(random, &stream);
         let (lent, pieces) = (stream.lent(), stream.pieces());
-        let [taken, owed] = [stream.from.taken as usize, stream.from.owed as usize];
+        let TlvFilled { taken, owed } = stream.from;
         let whole = [&FILLER[4 - owed..], &lent[taken..], &FILLER.repeat(stream.room() / 4 + 1)].concat();
         assert!(slots == whole[..stream.room()]);
         assert_eq!(begins, reports(&stream, &pieces));
         let in_all = lent.len().min(taken + stream.room() - owed);
         let left = pieces.last().map_or(0, |piece| piece.end().saturating_sub(stream.room()));
         let left = if in_all == lent.len() { left } else { 0 };
-        assert_eq!(answer, TlvFilled { taken: in_all as u64, owed: left as u32 });
+        assert_eq!(answer, TlvFilled { taken: in_all, owed: left });
 
         (1..stream.slots).for_each(|slot| slot_ends.add(cut(&pieces, slot * stream.data())));
         ends.add(cut(&pieces, stream.room()));
@@ -62,7 +62,7 @@ fn wrong_packets_are_refused() {
         break_packets(random, way, &mut stream.packets);
         let lent = stream.lent();
         let taken = [0, random.below(lent.len() + 1), lent.len()];
-        let from = TlvFilled { taken: random.pick(&taken) as u64, owed: 0 };
+        let from = TlvFilled { taken: random.pick(&taken), owed: 0 };
         let (answer, _) = filled(random, stream.rate, &lent, from, stream.slots);
         assert_eq!(answer, Err(Refusal::Packet), "{way}");
         kinds.add(way);
@@ -87,7 +87,7 @@ fn filling_in_two_calls_is_filling_once() {
         assert_eq!(answer, Ok(once.0));
         assert!(twice == once.1, "slots or reports differ");
         kinds.add(match between.owed {
-            0 if between.taken < lent.len() as u64 => "packets left",
+            0 if between.taken < lent.len() => "packets left",
             0 => "nothing owed",
             1 => "one owed",
             2 => "two owed",

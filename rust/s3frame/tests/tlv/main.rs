@@ -5,7 +5,7 @@ mod damage;
 mod filling;
 mod reading;
 use common::tlv::{Piece, Stream, FILLER};
-use common::{number, trials, Random};
+use common::{trials, Random};
 use s3frame::{fill_tlv, Rate, Refusal, TlvFilled};
 
 /// Slots and their reports.
@@ -21,12 +21,9 @@ fn filled(
 ) -> (Result<TlvFilled, Refusal>, Slots) {
     let found = (random.octets(count * rate.data_octets()), random.numbers(count));
     let [mut ours, mut theirs] = [found.clone(), found];
-    let mut next = [7, 7];
     let answer = fill_tlv(rate, packets, from, &mut ours.0, &mut ours.1);
-    let expected =
-        reference::tlv::fill(rate as usize, packets, from.taken, from.owed, &mut theirs.0, &mut theirs.1, &mut next);
-    assert_eq!(number(answer), expected.into());
-    assert_eq!(answer.map_or([0; 2], |filled| [filled.taken, filled.owed.into()]), next);
+    let expected = reference::tlv::fill(rate as usize, packets, from.taken, from.owed, &mut theirs.0, &mut theirs.1);
+    assert_eq!(answer.map(|filled| (filled.taken, filled.owed)).map_err(|refusal| refusal as u8), expected);
     assert!(ours == theirs, "slots or reports differ");
     (answer, ours)
 }

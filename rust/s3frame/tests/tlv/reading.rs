@@ -27,11 +27,9 @@ impl Received {
         let [mut ours, mut theirs] = [found.clone(), found.clone()];
         let marks: Vec<u8> = self.lost.iter().map(|&lost| lost.into()).collect();
         let first = self.first.map_or(65_535, u32::from);
-        let mut next = [7, 7];
         let (slots, begins) = (&self.slots, &self.begins);
-        let expected = reference::tlv::read(self.rate as usize, slots, begins, &marks, first, &mut theirs, &mut next);
-        assert_eq!(expected, 0);
-        let [written, begin] = next.map(|number| number as usize);
+        let expected = reference::tlv::read(self.rate as usize, slots, begins, &marks, first, &mut theirs);
+        let (written, begin) = expected.expect("slots and reports");
         let unfinished = (begin < slots.len()).then_some(begin);
         let answer = read_tlv(self.rate, slots, begins, &self.lost, self.first, &mut ours);
         assert_eq!(answer, Ok(TlvRead { written, unfinished }));
@@ -231,7 +229,7 @@ fn packets_lent_later_follow_the_fillers() {
     let mut kinds = Counts::default();
     streams(&mut random, 100, |random, stream| {
         let (came, (mut slots, mut begins)) = filled_stream(random, &stream);
-        if came.taken < stream.lent().len() as u64 {
+        if came.taken < stream.lent().len() {
             return;
         }
         let later = Stream { from: TlvFilled { taken: 0, owed: came.owed }, ..Stream::new(random, stream.rate) };
@@ -242,7 +240,7 @@ fn packets_lent_later_follow_the_fillers() {
         let unfinished = second.1.map(|at| stream.room() + at);
         let read = Received::new(stream.rate, (slots, begins)).read(random);
         assert!(read == ([first.0, second.0].concat(), unfinished));
-        kinds.add(["nothing owed", "one owed", "two owed", "three owed"][came.owed as usize]);
+        kinds.add(["nothing owed", "one owed", "two owed", "three owed"][came.owed]);
     });
     kinds.are(&["nothing owed", "one owed", "two owed", "three owed"]);
 }

@@ -20,28 +20,16 @@ fn bits<const N: usize>(floats: [f32; N]) -> [u32; N] {
     floats.map(f32::to_bits)
 }
 
-/// The number, and the bits of an area of two coordinates after the call.
-fn called(call: impl FnOnce(&mut [f32]) -> u8) -> (u8, Point) {
-    let mut area = [FOUND; 2].map(f32::from_bits);
-    (call(&mut area), bits(area))
+fn bpsk(label: u32, symbol: u32) -> Result<Point, u8> {
+    point(1, label, symbol, &BPSK_LISTS[0], &BPSK_LISTS[1])
 }
 
-fn bpsk(label: u32, symbol: u32) -> (u8, Point) {
-    called(|area| point(1, label, symbol, &BPSK_LISTS[0], &BPSK_LISTS[1], area))
+fn qpsk(label: u32, symbol: u32) -> Result<Point, u8> {
+    point(2, label, symbol, &QPSK_LISTS[0], &QPSK_LISTS[1])
 }
 
-fn qpsk(label: u32, symbol: u32) -> (u8, Point) {
-    called(|area| point(2, label, symbol, &QPSK_LISTS[0], &QPSK_LISTS[1], area))
-}
-
-fn arranged_qpsk(label: u32, register: u32) -> (u8, Point) {
-    called(|area| arranged_point(2, label, 0, &QPSK_LISTS[0], &QPSK_LISTS[1], MASK, register, area))
-}
-
-/// The number of a call that is refused, which must leave its area.
-fn refused((number, area): (u8, Point)) -> u8 {
-    assert!(number != 0 && area == [FOUND; 2]);
-    number
+fn arranged_qpsk(label: u32, register: u32) -> Result<Point, u8> {
+    arranged_point(2, label, 0, &QPSK_LISTS[0], &QPSK_LISTS[1], MASK, register)
 }
 
 /// The number and the bits of both areas after making points of labels.
@@ -54,35 +42,34 @@ fn many(modulation: usize, symbol: u32, labels: &[u8], lists: [&[f32]; 2]) -> (u
 #[test]
 fn even_symbols_of_bpsk_turn_by_90_degrees() {
     for odd in [1, 3, 44_879, u32::MAX] {
-        assert_eq!([0, 1].map(|label| bpsk(label, odd)), [(0, bits([0.6, 0.8])), (0, bits([-0.6, -0.8]))]);
+        assert_eq!([0, 1].map(|label| bpsk(label, odd)), [Ok(bits([0.6, 0.8])), Ok(bits([-0.6, -0.8]))]);
     }
     for even in [2, 4, 44_880, 1 << 31, u32::MAX - 1] {
-        assert_eq!([0, 1].map(|label| bpsk(label, even)), [(0, bits([-0.8, 0.6])), (0, bits([0.8, -0.6]))]);
+        assert_eq!([0, 1].map(|label| bpsk(label, even)), [Ok(bits([-0.8, 0.6])), Ok(bits([0.8, -0.6]))]);
     }
 }
 
 #[test]
 fn other_modulations_take_the_entries_as_they_are() {
     for symbol in [0, 1, 2, u32::MAX] {
-        let expected = [[1.5, -3.5], [-2.5, 4.5], [0.0, -0.0], [-0.0, 0.0]].map(|point| (0, bits(point)));
+        let expected = [[1.5, -3.5], [-2.5, 4.5], [0.0, -0.0], [-0.0, 0.0]].map(|point| Ok(bits(point)));
         assert_eq!([0, 1, 2, 3].map(|label| qpsk(label, symbol)), expected);
     }
     for modulation in 1..=5 {
         let list: Vec<f32> = (0..1 << modulation).map(|entry| entry as f32).collect();
         let last = (1 << modulation) - 1;
-        let answer = called(|area| point(modulation, last, 1, &list, &list, area));
-        assert_eq!(answer, (0, bits([last as f32; 2])));
-        assert_eq!(refused(called(|area| point(modulation, last + 1, 1, &list, &list, area))), 12);
+        assert_eq!(point(modulation, last, 1, &list, &list), Ok(bits([last as f32; 2])));
+        assert_eq!(point(modulation, last + 1, 1, &list, &list), Err(12));
     }
 }
 
 #[test]
 fn zeros_turn_into_zeros_with_their_signs() {
-    let turned = |i, q| called(|area| point(1, 0, 2, &[i, 1.0], &[q, 1.0], area));
-    assert_eq!(turned(0.0, 0.0), (0, bits([-0.0, 0.0])));
-    assert_eq!(turned(0.0, -0.0), (0, bits([0.0, 0.0])));
-    assert_eq!(turned(-0.0, 0.0), (0, bits([-0.0, -0.0])));
-    assert_eq!([2, 3].map(|label| arranged_qpsk(label, 1 << 14)), [(0, bits([-0.0, 0.0])), (0, bits([0.0, -0.0]))]);
+    let turned = |i, q| point(1, 0, 2, &[i, 1.0], &[q, 1.0]);
+    assert_eq!(turned(0.0, 0.0), Ok(bits([-0.0, 0.0])));
+    assert_eq!(turned(0.0, -0.0), Ok(bits([0.0, 0.0])));
+    assert_eq!(turned(-0.0, 0.0), Ok(bits([-0.0, -0.0])));
+    assert_eq!([2, 3].map(|label| arranged_qpsk(label, 1 << 14)), [Ok(bits([-0.0, 0.0])), Ok(bits([0.0, -0.0]))]);
 }
 
 #[test]
@@ -97,53 +84,43 @@ fn turns_that_come_round() {
 /// Document 01's register gives 14 zeros, then a one, and comes round behind 15 steps.
 #[test]
 fn the_register_turns_the_arrangement_signal() {
-    let mut register = [START];
+    let mut register = START;
     for symbol in 0..45 {
         let expected = if symbol % 15 == 14 { [-1.5, 3.5] } else { [1.5, -3.5] };
-        assert_eq!(arranged_qpsk(0, register[0]), (0, bits(expected)));
-        assert_eq!(arranged_step(MASK, register[0], &mut register), 0);
+        assert_eq!(arranged_qpsk(0, register), Ok(bits(expected)));
+        register = arranged_step(MASK, register).expect("a register that is allowed");
     }
-    assert_eq!(register, [START]);
+    assert_eq!(register, START);
 }
 
 #[test]
 fn the_half_turn_is_added_to_the_quarter_turn() {
     let [i, q] = BPSK_LISTS;
-    let arranged = |symbol, register| called(|area| arranged_point(1, 0, symbol, &i, &q, MASK, register, area));
+    let arranged = |symbol, register| arranged_point(1, 0, symbol, &i, &q, MASK, register);
     assert_eq!([1, 2].map(|symbol| arranged(symbol, 0x3fff)), [1, 2].map(|symbol| bpsk(0, symbol)));
-    assert_eq!([1, 2].map(|symbol| arranged(symbol, 0x4000)), [(0, bits([-0.6, -0.8])), (0, bits([0.8, -0.6]))]);
+    assert_eq!([1, 2].map(|symbol| arranged(symbol, 0x4000)), [Ok(bits([-0.6, -0.8])), Ok(bits([0.8, -0.6]))]);
 }
 
 #[test]
 fn stepping_the_register() {
-    let stepped = |mask, register| {
-        let mut next = [9];
-        (arranged_step(mask, register, &mut next), next[0])
-    };
-    assert_eq!([stepped(MASK, 1), stepped(MASK, 1 << 14), stepped(MASK | 1, 3)], [(0, 2), (0, 1), (0, 7)]);
+    let stepped = [(MASK, 1), (MASK, 1 << 14), (MASK | 1, 3)].map(|(mask, register)| arranged_step(mask, register));
+    assert_eq!(stepped, [Ok(2), Ok(1), Ok(7)]);
     for (mask, register) in [(MASK, 0), (MASK, 1 << 15), (MASK, u32::MAX), (0, 1), (MASK - 1, 1), (1 << 15 | MASK, 1)] {
-        assert_eq!(stepped(mask, register), (6, 0));
+        assert_eq!(arranged_step(mask, register), Err(6));
     }
-    let mut next = [9, 9];
-    assert_eq!([arranged_step(MASK, 1, &mut []), arranged_step(MASK, 1, &mut next)], [4, 4]);
-    assert_eq!([arranged_step(MASK, 0, &mut []), arranged_step(MASK, 0, &mut next)], [6, 6]);
-    assert_eq!(next, [9, 9]);
 }
 
 #[test]
 fn an_entry_that_is_used_is_a_finite_number() {
     let wrong = [0x7f80_0000, 0xff80_0000, 0x7f80_0001, 0xff80_0001, 0x7fc0_0000, 0xffc0_0000, u32::MAX >> 1, u32::MAX];
     for wrong in wrong.map(f32::from_bits) {
-        let with_wrong = |label, [i, q]: [f32; 2]| called(|area| point(1, label, 1, &[0.5, i], &[0.25, q], area));
-        assert_eq!(
-            [[wrong, 0.0], [0.0, wrong], [wrong, wrong]].map(|entries| refused(with_wrong(1, entries))),
-            [18; 3]
-        );
-        assert_eq!(with_wrong(0, [wrong, wrong]), (0, bits([0.5, 0.25])));
+        let with_wrong = |label, [i, q]: [f32; 2]| point(1, label, 1, &[0.5, i], &[0.25, q]);
+        assert_eq!([[wrong, 0.0], [0.0, wrong], [wrong, wrong]].map(|entries| with_wrong(1, entries)), [Err(18); 3]);
+        assert_eq!(with_wrong(0, [wrong, wrong]), Ok(bits([0.5, 0.25])));
     }
     // The largest numbers, the least normal one, the largest denormal one and the least of all are finite.
     for finite in [0x7f7f_ffff, 0xff7f_ffff, 0x0080_0000, 0x807f_ffff, 0x0000_0001].map(f32::from_bits) {
-        assert_eq!(called(|area| point(1, 0, 1, &[finite; 2], &[finite; 2], area)), (0, bits([finite; 2])));
+        assert_eq!(point(1, 0, 1, &[finite; 2], &[finite; 2]), Ok(bits([finite; 2])));
     }
 }
 
@@ -151,7 +128,7 @@ fn an_entry_that_is_used_is_a_finite_number() {
 fn lengths_symbol_label_and_coordinates_in_their_order() {
     let (right, wrong) = ([INFINITE; 2], [INFINITE; 3]);
     let number = |modulation, label, symbol, i: &[f32], q: &[f32]| {
-        refused(called(|area| point(modulation, label, symbol, i, q, area)))
+        point(modulation, label, symbol, i, q).expect_err("a refusal")
     };
     assert_eq!([0, 6, 257, usize::MAX].map(|modulation| number(modulation, 9, 0, &wrong, &wrong)), [1; 4]);
     assert_eq!(
@@ -161,19 +138,13 @@ fn lengths_symbol_label_and_coordinates_in_their_order() {
     assert_eq!([number(1, 9, 0, &right, &right), number(2, 9, 0, &right, &right)], [4; 2]);
     assert_eq!([2, 256, 1 << 31, u32::MAX].map(|label| number(1, label, 1, &right, &right)), [12; 4]);
     assert_eq!(number(1, 1, 1, &right, &right), 18);
-    for length in [0, 1, 3] {
-        let mut area = [f32::from_bits(FOUND); 3];
-        assert_eq!(point(1, 9, 1, &right, &right, &mut area[..length]), 4);
-        assert_eq!(arranged_point(1, 9, 1, &right, &right, MASK, START, &mut area[..length]), 4);
-        assert_eq!(bits(area), [FOUND; 3]);
-    }
 }
 
 #[test]
 fn the_register_comes_behind_the_modulation_and_before_the_lengths() {
     let lists = [INFINITE; 2];
     let number = |modulation, label, symbol, mask, register| {
-        refused(called(|area| arranged_point(modulation, label, symbol, &lists, &lists, mask, register, area)))
+        arranged_point(modulation, label, symbol, &lists, &lists, mask, register).expect_err("a refusal")
     };
     assert_eq!([0, 6].map(|modulation| number(modulation, 9, 0, 0, 0)), [1; 2]);
     assert_eq!(
@@ -189,7 +160,8 @@ fn points_of_labels_are_those_of_each() {
     let [i, q] = BPSK_LISTS;
     let both = |first: u32, labels: &[u8]| {
         let symbols = (u64::from(first)..).map(|symbol| if symbol % 2 == 0 { 2 } else { 1 });
-        let lone: Vec<Point> = symbols.zip(labels).map(|(symbol, &label)| bpsk(label.into(), symbol).1).collect();
+        let lone = symbols.zip(labels).map(|(symbol, &label)| bpsk(label.into(), symbol));
+        let lone: Vec<Point> = lone.collect::<Result<_, u8>>().expect("points");
         let expected = [0, 1].map(|coordinate| lone.iter().map(|point| point[coordinate]).collect());
         assert_eq!(many(1, first, labels, [&i, &q]), (0, expected));
     };

@@ -2,8 +2,8 @@
 use super::*;
 
 /// Document 01's plan, and settings that the registers of 25 and of 15 bits allow.
-const PLAN: [u8; 6] = [4, 7, 115, 2, 3, 5];
-const NUMBERS: [u32; 4] = [0x0123_4567, 0x0089_abcd, 0x4321, 0x7fff];
+const PLAN: [(usize, usize, usize); 2] = [(4, 7, 115), (2, 3, 5)];
+const NUMBERS: Registers = [0x0123_4567, 0x0089_abcd, 0x4321, 0x7fff];
 
 /// What areas hold before a call.
 const FOUND: u8 = 0xa5;
@@ -19,17 +19,13 @@ fn worked() -> Vec<u8> {
     block
 }
 
-/// The number and what was returned.
-fn read_at(card: &[u8], number: u32) -> (u8, [u8; 24], [u32; 5]) {
-    let (mut plan, mut settings) = ([FOUND; 24], [9; 5]);
-    (read(card, number, &mut plan, &mut settings), plan, settings)
+fn setting() -> Setting {
+    Setting { plan: plan::plan(&PLAN), registers: NUMBERS }
 }
 
-/// The number of a reading, which must return zeros where it is refused.
-fn number_at(card: &[u8], number: u32) -> u8 {
-    let (refusal, plan, settings) = read_at(card, number);
-    assert!(refusal == 0 || (plan, settings) == ([0; 24], [0; 5]));
-    refusal
+/// The number of a reading.
+fn number_at(card: &[u8], number: usize) -> u8 {
+    read(card, number).err().unwrap_or(0)
 }
 
 /// The number of reading the worked block with other octets from a place on, and its sum put right.
@@ -44,19 +40,16 @@ fn with(place: usize, octets: &[u8]) -> u8 {
 #[test]
 fn the_octets_of_a_block() {
     let mut card = [FOUND; 512];
-    assert_eq!(replace(&mut card, 0, &PLAN, &NUMBERS), 0);
+    assert_eq!(replace(&mut card, 0, &setting()), 0);
     assert!(card[..] == worked());
-    let mut plan = [0; 24];
-    plan[..6].copy_from_slice(&PLAN);
-    let [slot_mask, slot_start, tmcc_mask, tmcc_start] = NUMBERS;
-    assert_eq!(read_at(&card, 0), (0, plan, [2, slot_mask, slot_start, tmcc_mask, tmcc_start]));
+    assert_eq!(read(&card, 0), Ok(setting()));
 }
 
 #[test]
 fn the_other_blocks_keep_their_octets() {
     for number in 0..3 {
         let mut card = [FOUND; 3 * 512];
-        assert_eq!(replace(&mut card, number, &PLAN, &NUMBERS), 0);
+        assert_eq!(replace(&mut card, number, &setting()), 0);
         for (block, octets) in (0..).zip(card.chunks(512)) {
             let expected = if block == number { worked() } else { vec![FOUND; 512] };
             assert!(octets == expected);
@@ -67,19 +60,19 @@ fn the_other_blocks_keep_their_octets() {
 
 #[test]
 fn a_card_has_whole_blocks_64_at_most() {
-    let numbers = |octets: usize, number: u32| {
+    let numbers = |octets: usize, number: usize| {
         let mut card = worked().repeat(66);
         card.truncate(octets);
         let found = card.clone();
-        let refusals = [number_at(&card, number), replace(&mut card, number, &PLAN, &NUMBERS)];
+        let refusals = [number_at(&card, number), replace(&mut card, number, &setting())];
         assert!(card == found);
         refusals
     };
-    assert_eq!([0, 1, u32::MAX].map(|number| numbers(0, number)), [[17; 2]; 3]);
+    assert_eq!([0, 1, usize::MAX].map(|number| numbers(0, number)), [[17; 2]; 3]);
     assert_eq!([0, 1, 1 << 23].map(|number| numbers(512, number)), [[0; 2], [17; 2], [17; 2]]);
-    assert_eq!([63, 64, 255, u32::MAX].map(|number| numbers(64 * 512, number)), [[0; 2], [17; 2], [17; 2], [17; 2]]);
+    assert_eq!([63, 64, 255, usize::MAX].map(|number| numbers(64 * 512, number)), [[0; 2], [17; 2], [17; 2], [17; 2]]);
     for octets in [1, 511, 513, 64 * 512 - 1, 64 * 512 + 1, 65 * 512, 66 * 512] {
-        assert_eq!([0, 64, u32::MAX].map(|number| numbers(octets, number)), [[4; 2]; 3]);
+        assert_eq!([0, 64, usize::MAX].map(|number| numbers(octets, number)), [[4; 2]; 3]);
     }
 }
 
@@ -129,35 +122,19 @@ fn plan_and_registers_come_behind_the_block() {
 
 #[test]
 fn replacing_has_the_same_order() {
-    let number = |blocks: usize, number, plan: &[u8], registers: &[u32]| {
-        let mut card = vec![FOUND; blocks];
-        let refusal = replace(&mut card, number, plan, registers);
-        assert!(refusal == 0 || card == vec![FOUND; blocks]);
+    let number = |octets: usize, number, groups: &[(usize, usize, usize)], registers| {
+        let mut card = vec![FOUND; octets];
+        let refusal = replace(&mut card, number, &Setting { plan: plan::plan(groups), registers });
+        assert!(refusal == 0 || card == vec![FOUND; octets]);
         refusal
     };
     let swapped = [0x4321, 0x7fff, 0x0123_4567, 0x0089_abcd];
-    assert_eq!([number(511, 1, &[], &[0; 4]), number(512, 1, &[], &[0; 3]), number(512, 0, &PLAN, &[0; 5])], [4; 3]);
-    assert_eq!(number(512, 1, &[], &[0; 4]), 17);
-    assert_eq!([&PLAN[..5], &[], &[0; 27]].map(|plan| number(512, 0, plan, &[0; 4])), [1; 3]);
-    let wrong = [[4, 7, 116, 2, 3, 4], [2, 3, 5, 4, 7, 115], [4, 7, 115, 2, 3, 10]];
-    assert_eq!(wrong.map(|plan| number(512, 0, &plan, &[0; 4])), [13, 14, 15]);
-    assert_eq!([number(512, 0, &PLAN, &[0; 4]), number(512, 0, &PLAN, &swapped)], [6; 2]);
-    assert_eq!(number(512, 0, &PLAN, &NUMBERS), 0);
-}
-
-#[test]
-fn areas_of_another_length_are_left_alone() {
-    let block = worked();
-    let (mut plan, mut settings) = ([FOUND; 25], [9; 6]);
-    for length in [0, 6, 23, 25] {
-        settings[..5].fill(9);
-        assert_eq!(read(&block, 1, &mut plan[..length], &mut settings[..5]), 4);
-        assert_eq!((plan, &settings[..5]), ([FOUND; 25], &[0; 5][..]));
-    }
-    settings[..5].fill(9);
-    for length in [0, 2, 4, 6] {
-        plan.fill(FOUND);
-        assert_eq!(read(&block, 1, &mut plan[..24], &mut settings[..length]), 4);
-        assert_eq!((&plan[..24], settings), (&[0; 24][..], [9; 6]));
-    }
+    assert_eq!([number(511, 1, &[], [0; 4]), number(512, 1, &[], [0; 4])], [4, 17]);
+    assert_eq!([&[][..], &[(0, 0, 0); 9]].map(|groups| number(512, 0, groups, [0; 4])), [1; 2]);
+    let wrong = [[(4, 7, 116), (2, 3, 4)], [(2, 3, 5), (4, 7, 115)], [(4, 7, 115), (2, 3, 10)]];
+    assert_eq!(wrong.map(|groups| number(512, 0, &groups, [0; 4])), [13, 14, 15]);
+    // Numbers that an octet would cut to right ones.
+    assert_eq!([(260, 7, 120), (4, 263, 120), (4, 7, 376)].map(|group| number(512, 0, &[group], NUMBERS)), [13; 3]);
+    assert_eq!([number(512, 0, &PLAN, [0; 4]), number(512, 0, &PLAN, swapped)], [6; 2]);
+    assert_eq!(number(512, 0, &PLAN, NUMBERS), 0);
 }

@@ -14,29 +14,29 @@ fn packet(kind: u8, body: u16) -> Vec<u8> {
     [vec![FIRST, kind, high, low], vec![octet; body.into()]].concat()
 }
 
-/// Slots and reports after filling, and the number and what it returned.
-type Filled = (Vec<u8>, Vec<u16>, (u8, [u64; 2]));
+/// Slots and reports after filling, and its answer.
+type Filled = (Vec<u8>, Vec<u16>, Result<(usize, usize), u8>);
 
-fn filled(packets: &[u8], taken: u64, owed: u32, count: usize) -> Filled {
-    let (mut slots, mut begins, mut next) = (vec![FOUND; count * DATA], vec![7; count], [7, 7]);
-    let number = fill(1, packets, taken, owed, &mut slots, &mut begins, &mut next);
-    (slots, begins, (number, next))
+fn filled(packets: &[u8], taken: usize, owed: usize, count: usize) -> Filled {
+    let (mut slots, mut begins) = (vec![FOUND; count * DATA], vec![7; count]);
+    let answer = fill(1, packets, taken, owed, &mut slots, &mut begins);
+    (slots, begins, answer)
 }
 
-/// The number of a filling that is refused, which must leave slots and reports as they were and return zeros.
-fn refused(packets: &[u8], taken: u64, owed: u32) -> u8 {
-    let (slots, begins, (number, next)) = filled(packets, taken, owed, 1);
-    assert!(number != 0 && slots == vec![FOUND; DATA] && begins == [7] && next == [0, 0]);
-    number
+/// The number of a filling that is refused, which must leave slots and reports as they were.
+fn refused(packets: &[u8], taken: usize, owed: usize) -> u8 {
+    let (slots, begins, answer) = filled(packets, taken, owed, 1);
+    assert!(slots == vec![FOUND; DATA] && begins == [7]);
+    answer.expect_err("a refusal")
 }
 
 /// What reading wrote, and where the unfinished one begins; everything behind must be as it was.
 fn read_from(slots: &[u8], begins: &[u16], lost: &[u8], first: u32) -> (Vec<u8>, usize) {
-    let (mut packets, mut next) = (vec![FOUND; slots.len()], [7, 7]);
-    assert_eq!(read(1, slots, begins, lost, first, &mut packets, &mut next), 0);
-    let rest = packets.split_off(next[0] as usize);
+    let mut packets = vec![FOUND; slots.len()];
+    let (written, unfinished) = read(1, slots, begins, lost, first, &mut packets).expect("slots and reports");
+    let rest = packets.split_off(written);
     assert!(rest.iter().all(|&octet| octet == FOUND));
-    (packets, next[1] as usize)
+    (packets, unfinished)
 }
 
 fn read_all(slots: &[u8], begins: &[u16], lost: &[u8]) -> (Vec<u8>, usize) {
@@ -45,12 +45,10 @@ fn read_all(slots: &[u8], begins: &[u16], lost: &[u8]) -> (Vec<u8>, usize) {
 
 /// The numbers of filling and of reading with areas of these lengths.
 fn with_lengths(rate: usize, slots: usize, begins: usize, marks: usize, packets: usize) -> [u8; 2] {
-    let (mut octets, mut reports, mut next) = (vec![0; slots], vec![0; begins], [7, 7]);
-    let filled = fill(rate, &[], 0, 0, &mut octets, &mut reports, &mut next);
-    assert_eq!(next == [0, 0], filled != 0);
-    let read = read(rate, &octets, &reports, &vec![0; marks], 65535, &mut vec![0; packets], &mut next);
-    assert_eq!(next == [0, 0], read != 0);
-    [filled, read]
+    let (mut octets, mut reports) = (vec![0; slots], vec![0; begins]);
+    let filled = fill(rate, &[], 0, 0, &mut octets, &mut reports);
+    let read = read(rate, &octets, &reports, &vec![0; marks], 65535, &mut vec![0; packets]);
+    [filled, read].map(|answer| answer.err().unwrap_or(0))
 }
 
 #[test]
@@ -73,18 +71,17 @@ fn packets_lie_end_to_end_across_slots() {
     // The second packet begins at octet 1864 and ends at 1876; the third begins there, 6 octets into the second slot.
     assert_eq!(begins, [0, 6]);
     assert_eq!(slots[3730..], [&packet(3, 0)[..], &FILLER, &[0x7f, 0xff]].concat());
-    assert_eq!(answer, (0, [3734, 2]));
+    assert_eq!(answer, Ok((3734, 2)));
 }
 
 #[test]
 fn the_owed_octets_come_first_and_are_no_beginning() {
     for (owed, rest) in [(0, &[][..]), (1, &[0]), (2, &[0, 0]), (3, &[0xff, 0, 0])] {
         let (slots, begins, answer) = filled(&packet(1, 100), 0, owed, 1);
-        let owed = owed as usize;
         assert_eq!((&slots[..owed], &slots[owed..owed + 104]), (rest, &packet(1, 100)[..]));
         assert_eq!(begins, [owed as u16]);
         // 1766 - owed octets of fillers: two octets are left of the last where none are owed, and three where one is.
-        assert_eq!(answer, (0, [104, [2, 3, 0, 1][owed]]));
+        assert_eq!(answer, Ok((104, [2, 3, 0, 1][owed])));
     }
 }
 
@@ -93,11 +90,11 @@ fn a_cut_filler_is_carried_on_into_the_next_slot() {
     // 1870 is 467 fillers and two octets.
     let (slots, begins, answer) = filled(&[], 0, 0, 3);
     assert_eq!(slots, FILLER.repeat(1403)[..5610]);
-    assert_eq!((begins, answer), (vec![0, 2, 0], (0, [0, 2])));
+    assert_eq!((begins, answer), (vec![0, 2, 0], Ok((0, 2))));
     let (first, _, _) = filled(&[], 0, 0, 1);
     let (second, begins, answer) = filled(&[], 0, 2, 1);
     assert_eq!([first, second].concat(), slots[..3740]);
-    assert_eq!((begins, answer), (vec![2], (0, [0, 0])));
+    assert_eq!((begins, answer), (vec![2], Ok((0, 0))));
 }
 
 #[test]
@@ -106,7 +103,7 @@ fn what_was_taken_before_is_not_filled_again() {
     assert_eq!(filled(&packets, 0, 0, 1).1, [0]);
     let (slots, begins, answer) = filled(&packets, 1870, 0, 2);
     assert_eq!(slots, [&packets[1870..], &[0x7f, 0xff]].concat());
-    assert_eq!(answer, (0, [5608, 2]));
+    assert_eq!(answer, Ok((5608, 2)));
     // The second packet begins at octet 5004 of all, 1264 octets into the second of these slots.
     assert_eq!(begins, [65535, 1264]);
     assert_eq!(filled(&packets, 5004, 0, 1).1, [0]);
@@ -116,9 +113,9 @@ fn what_was_taken_before_is_not_filled_again() {
 #[test]
 fn packets_that_end_with_the_slots_owe_nothing() {
     let packets = packet(1, 1866);
-    assert_eq!(filled(&packets, 0, 0, 1).2, (0, [1870, 0]));
-    assert_eq!(filled(&packets, 0, 1, 1).2, (0, [1869, 0]));
-    assert_eq!(filled(&packets, 1869, 0, 1).2, (0, [1870, 3]));
+    assert_eq!(filled(&packets, 0, 0, 1).2, Ok((1870, 0)));
+    assert_eq!(filled(&packets, 0, 1, 1).2, Ok((1869, 0)));
+    assert_eq!(filled(&packets, 1869, 0, 1).2, Ok((1870, 3)));
     assert_eq!(filled(&packets, 1870, 0, 1).1, [0]);
     assert_eq!(filled(&packets, 1870, 3, 1).1, [3]);
 }
@@ -126,10 +123,10 @@ fn packets_that_end_with_the_slots_owe_nothing() {
 #[test]
 fn taken_and_owed_have_their_limits() {
     let packets = packet(1, 6);
-    assert_eq!([(10, 0), (10, 3), (0, 3), (5, 0)].map(|(taken, owed)| filled(&packets, taken, owed, 1).2.0), [0; 4]);
-    let wrong = [(11, 0), (0, 4), (10, 4), (5, 1), (9, 3), (1, 1), (u64::MAX, 0), (0, u32::MAX), (1 << 32, 1 << 8)];
+    assert!([(10, 0), (10, 3), (0, 3), (5, 0)].iter().all(|&(taken, owed)| filled(&packets, taken, owed, 1).2.is_ok()));
+    let wrong = [(11, 0), (0, 4), (10, 4), (5, 1), (9, 3), (1, 1), (usize::MAX, 0), (0, usize::MAX), (1 << 32, 1 << 8)];
     assert_eq!(wrong.map(|(taken, owed)| refused(&packets, taken, owed)), [4; 9]);
-    assert_eq!(filled(&[], 0, 3, 1).2, (0, [0, 1]));
+    assert_eq!(filled(&[], 0, 3, 1).2, Ok((0, 1)));
 }
 
 #[test]
@@ -142,21 +139,13 @@ fn lengths_come_behind_the_rate_and_before_the_packets() {
     for (marks, packets) in [(0, DATA), (2, DATA), (1, DATA - 1), (1, DATA + 1), (1, 0)] {
         assert_eq!(with_lengths(1, DATA, 1, marks, packets), [0, 4]);
     }
-    let mut next = [7, 7, 7];
-    for length in [0, 1, 3] {
-        let next = &mut next[..length];
-        assert_eq!(fill(0, &[0], 0, 0, &mut [0; DATA], &mut [0], next), 1);
-        assert_eq!(fill(1, &[0], 0, 0, &mut [0; DATA], &mut [0], next), 4);
-        assert_eq!(read(1, &[0; DATA], &[0], &[0], 0, &mut [0; DATA], next), 4);
-    }
-    assert_eq!(next, [7, 7, 7]);
     assert_eq!([refused(&[0], 2, 0), refused(&[0], 1, 0)], [4, 16]);
 }
 
 #[test]
 fn wrong_packets_are_refused_also_those_taken_before() {
     let whole = [packet(1, 6), packet(NULL, 3), packet(2, 0)].concat();
-    assert_eq!(filled(&whole, 0, 0, 1).2.0, 0);
+    assert!(filled(&whole, 0, 0, 1).2.is_ok());
     for (octet, value) in [(0, 0x7e), (1, 0), (1, 4), (1, 0xfd), (3, 5), (10, 0xff), (12, 1), (16, 0xfe), (20, 1)] {
         let mut wrong = whole.clone();
         wrong[octet] = value;
@@ -165,7 +154,7 @@ fn wrong_packets_are_refused_also_those_taken_before() {
     for cut in [1, 2, 3, 5, 6, 7, 8, 13] {
         assert_eq!(refused(&whole[..whole.len() - cut], 0, 0), 16);
     }
-    assert_eq!([4, 11].map(|cut| filled(&whole[..whole.len() - cut], 0, 0, 1).2.0), [0; 2]);
+    assert!([4, 11].iter().all(|cut| filled(&whole[..whole.len() - cut], 0, 0, 1).2.is_ok()));
 }
 
 #[test]
@@ -317,10 +306,10 @@ fn reading_begins_at_the_octet_that_is_named() {
 fn reports_marks_and_the_first_octet_have_their_limits() {
     let slots = vec![0; 2 * DATA];
     let number = |begins: [u16; 2], lost: [u8; 2], first: u32| {
-        let (mut packets, mut next) = (vec![FOUND; 2 * DATA], [7, 7]);
-        let number = read(1, &slots, &begins, &lost, first, &mut packets, &mut next);
-        assert!(packets == vec![FOUND; 2 * DATA] && next == [0, if number == 0 { 3740 } else { 0 }]);
-        number
+        let mut packets = vec![FOUND; 2 * DATA];
+        let answer = read(1, &slots, &begins, &lost, first, &mut packets);
+        assert!(packets == vec![FOUND; 2 * DATA] && answer.map_or(true, |answer| answer == (0, 3740)));
+        answer.err().unwrap_or(0)
     };
     assert_eq!([number([1869, 65535], [0, 1], 1869), number([65535, 1869], [1, 1], 65535)], [0, 0]);
     for wrong in [1870, 1871, 3740, 65534] {
