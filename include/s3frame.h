@@ -125,7 +125,7 @@ typedef struct s3_plan {
 } s3_plan;
 
 /* The frame state: a plan, the settings of the register, the next slot from 1, and the register there. It comes from s3_open,
- * and from each call to the next. */
+ * and from each call to the next; what stands behind the groups in use stays as it is. */
 typedef struct s3_state {
     uint16_t count;
     uint16_t modulation[8];
