@@ -1,8 +1,8 @@
 -- The BCH code: its generator, and the BCH bits of a message.
 use Rattle.std.specs.Prelude.{List, [], ◌∷◌, map, ℕ}
 use Rattle.bits.specs.Digits.{digits}
-use Rattle.bch.specs.Polynomials.{withExponents, product}
-use Rattle.bch.specs.Division.{remainderOf}
+use Rattle.bch.specs.Polynomials.{with_exponents, product}
+use Rattle.bch.specs.Division.{remainder_of}
 
 -- document 002, Table 2.2.1-3: the exponents of the twelve polynomials, as printed
 unfoldable pub exponents : List (List ℕ)
@@ -23,9 +23,9 @@ exponents =
 
 -- document 01: "the generator is the product of all twelve polynomials, degree 192"
 unfoldable pub generator : ℕ
-generator = product (map withExponents exponents)
+generator = product (map with_exponents exponents)
 
 -- document 01: "The BCH bits are the remainder, on division by the generator, of message times the 192nd power,
 -- highest power first"
-unfoldable pub bchBits : List ℕ → List ℕ
-bchBits m = digits 192 (remainderOf 192 generator m)
+unfoldable pub bch_bits : List ℕ → List ℕ
+bch_bits m = digits 192 (remainder_of 192 generator m)

@@ -10,14 +10,14 @@ unfoldable pub ◌⊕◌ : ℕ → ℕ → ℕ
 a ⊕ b = bit_xor a b
 
 -- the product with the k lowest coefficients of a
-unfoldable pub lowTimes : ℕ → ℕ → ℕ → ℕ
-lowTimes zero a b = 0
-lowTimes (suc k) zero b = 0
-lowTimes (suc k) (suc a) b = lowTimes k (suc a / 2) b * 2 ⊕ suc a % 2 * b
+unfoldable pub low_times : ℕ → ℕ → ℕ → ℕ
+low_times zero a b = 0
+low_times (suc k) zero b = 0
+low_times (suc k) (suc a) b = low_times k (suc a / 2) b * 2 ⊕ suc a % 2 * b
 
 -- the product: a has no more than a coefficients
 unfoldable pub ◌⊗◌ : ℕ → ℕ → ℕ
-a ⊗ b = lowTimes a a b
+a ⊗ b = low_times a a b
 
 -- the coefficient of the k-th power
 unfoldable pub coefficient : ℕ → ℕ → ℕ
@@ -28,9 +28,9 @@ unfoldable pub Divides : ℕ → ℕ → Type 0
 Divides g d = (h : ℕ) × (h ⊗ g ≡ d)
 
 -- the polynomial with these exponents
-unfoldable pub withExponents : List ℕ → ℕ
-withExponents [] = 0
-withExponents (e ∷ es) = 2 ^ e ⊕ withExponents es
+unfoldable pub with_exponents : List ℕ → ℕ
+with_exponents [] = 0
+with_exponents (e ∷ es) = 2 ^ e ⊕ with_exponents es
 
 -- the product of all of them
 unfoldable pub product : List ℕ → ℕ
@@ -38,5 +38,5 @@ product [] = 1
 product (p ∷ ps) = p ⊗ product ps
 
 -- a run of bits as a polynomial (document 01: "first bit the highest power")
-unfoldable pub polynomialOf : List ℕ → ℕ
-polynomialOf u = number (length u) u
+unfoldable pub polynomial_of : List ℕ → ℕ
+polynomial_of u = number (length u) u

@@ -3,8 +3,8 @@ ghost use Rattle.std.specs.Prelude.{◌≡◌, length};
 ghost use Rattle.bits.specs.Digits.{digits};
 ghost use Rattle.bits.specs.Octets.{bits_of};
 ghost use Rattle.bits.specs.Same.{same};
-ghost use Rattle.bch.specs.Division.{remainderOf};
-ghost use Rattle.bch.specs.Bch.{generator, bchBits};
+ghost use Rattle.bch.specs.Division.{remainder_of};
+ghost use Rattle.bch.specs.Bch.{generator, bch_bits};
 ghost use Rattle.bch.specs.Words.{worth, Table};
 ghost use Rattle.bch.specs.Needs.{Divided, Message, Received};
 
@@ -14,7 +14,7 @@ use crate::{division, table};
 // The remainder of a message of octets.
 fn divide_octets(table: &[u64; 768], octets: &[u8]) -> Words
     requires { Table table.now }
-    ensures { worth result ≡ remainderOf 192 generator (bits_of octets.now) }
+    ensures { worth result ≡ remainder_of 192 generator (bits_of octets.now) }
 {
     let mut rest = division::NONE;
     let mut i: usize = 0;
@@ -29,7 +29,7 @@ fn divide_octets(table: &[u64; 768], octets: &[u8]) -> Words
 // of an octet: zeros in front of a message change nothing.
 fn divide_bits(table: &[u64; 768], run: &[u8]) -> Words
     requires { Divided table.now run.now }
-    ensures { worth result ≡ remainderOf 192 generator run.now }
+    ensures { worth result ≡ remainder_of 192 generator run.now }
 {
     let mut at = run.len() % 8;
     let mut rest = division::advance(table, division::NONE, bits::gather(&run[0..at]));
@@ -54,7 +54,7 @@ fn put(rest: Words, bch: &mut [u8])
 // The BCH bits of a message of octets, one octet for each bit.
 pub fn of_octets(octets: &[u8], bch: &mut [u8])
     requires { length bch.old ≡ 192 }
-    ensures { bch.new ≡ bchBits (bits_of octets.now) }
+    ensures { bch.new ≡ bch_bits (bits_of octets.now) }
 {
     let table = table::remainders();
     put(divide_octets(&table, octets), bch);
@@ -63,7 +63,7 @@ pub fn of_octets(octets: &[u8], bch: &mut [u8])
 // The BCH bits of a message of bits, whatever their number.
 pub fn of_bits(run: &[u8], bch: &mut [u8])
     requires { Message run.now bch.old }
-    ensures { bch.new ≡ bchBits run.now }
+    ensures { bch.new ≡ bch_bits run.now }
 {
     let table = table::remainders();
     put(divide_bits(&table, run), bch);
@@ -72,7 +72,7 @@ pub fn of_bits(run: &[u8], bch: &mut [u8])
 // Whether the received bits are the BCH bits of the message.
 pub fn right(run: &[u8], received: &[u8]) -> bool
     requires { Received run.now received.now }
-    ensures { result ≡ same (bchBits run.now) received.now }
+    ensures { result ≡ same (bch_bits run.now) received.now }
 {
     let mut made = [0u8; 192];
     of_bits(run, &mut made);

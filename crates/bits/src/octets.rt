@@ -1,7 +1,7 @@
 // Numbers and octets as bits, highest first.
 ghost use Rattle.std.specs.Prelude.{◌≡◌, ◌*◌, length};
 ghost use Rattle.bits.specs.Digits.{digits, number};
-ghost use Rattle.bits.specs.Octets.{bits_of, octetsOf};
+ghost use Rattle.bits.specs.Octets.{bits_of, octets_of};
 ghost use Rattle.bits.specs.Needs.{OfBits, Packed};
 
 // The lowest digits of x, as many as bits has places.
@@ -49,7 +49,7 @@ pub fn expand(octets: &[u8], bits: &mut [u8])
 // The octets of the bits.
 pub fn collect(bits: &[u8], octets: &mut [u8])
     requires { Packed bits.now octets.old }
-    ensures { octets.new ≡ octetsOf (length octets.old) bits.now }
+    ensures { octets.new ≡ octets_of (length octets.old) bits.now }
 {
     let mut i: usize = 0;
     let mut at: usize = 0;

@@ -2,10 +2,10 @@
 use Rattle.std.specs.Prelude.{◌&&◌, List, ℕ, eqb, length}
 use Rattle.lists.specs.Choice.{pick, and_then}
 use Rattle.refusal.specs.Numbers.{LENGTH, TABLE}
-use Rattle.parity_table.specs.Tables.{tableOk}
+use Rattle.parity_table.specs.Tables.{table_ok}
 use Rattle.codeword.specs.declared.Shape.{Shape}
 
 -- "4, 5": the n octets of the message, the word's octets, and the parity table
-unfoldable pub lentNumber : Shape → ℕ → List ℕ → List ℕ → List ℕ → ℕ
-lentNumber F n t source coded =
-    and_then (pick (eqb (length source) n && eqb (length coded) F.octets) 0 LENGTH) (pick (tableOk F.rows t) 0 TABLE)
+unfoldable pub lent_number : Shape → ℕ → List ℕ → List ℕ → List ℕ → ℕ
+lent_number F n t source coded =
+    and_then (pick (eqb (length source) n && eqb (length coded) F.octets) 0 LENGTH) (pick (table_ok F.rows t) 0 TABLE)

@@ -1,6 +1,6 @@
 // What a call on a codeword tests of what it is lent.
 ghost use Rattle.std.specs.Prelude.{◌≡◌};
-ghost use Rattle.codeword.specs.Calls.{lentNumber};
+ghost use Rattle.codeword.specs.Calls.{lent_number};
 ghost use Rattle.codeword.specs.WordLaws.{Fits};
 
 use crate::Shape;
@@ -8,7 +8,7 @@ use crate::Shape;
 // The refusal of the lent areas, the first of which holds the message's octets, or of the parity table, or 0.
 pub fn lent_number(shape: Shape, octets: usize, table: &[u16], source: &[u8], coded: &[u8]) -> u8
     requires { Fits shape }
-    ensures { result ≡ lentNumber shape octets table.now source.now coded.now }
+    ensures { result ≡ lent_number shape octets table.now source.now coded.now }
 {
     if source.len() != octets {
         return refusal::LENGTH;

@@ -1,6 +1,6 @@
 // The parity input of a codeword.
 ghost use Rattle.std.specs.Prelude.{◌≡◌};
-ghost use Rattle.codeword.specs.Words.{parityInput};
+ghost use Rattle.codeword.specs.Words.{parity_input};
 ghost use Rattle.codeword.specs.Needs.{Input};
 
 use crate::Shape;
@@ -8,7 +8,7 @@ use crate::Shape;
 // The bits before the parity as sent, with the zeros before and behind them that are not sent.
 pub fn put_input(shape: Shape, run: &[u8], input: &mut [u8])
     requires { Input shape run.now input.old }
-    ensures { input.new ≡ parityInput shape run.now }
+    ensures { input.new ≡ parity_input shape run.now }
 {
     let from = shape.before;
     let to = from + run.len();

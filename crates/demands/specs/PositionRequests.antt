@@ -4,44 +4,44 @@ use Rattle.std.specs.Prelude.{◌≡◌, List, ℕ, ◌+◌, ◌<◌, length, ge
 use Rattle.plan.specs.declared.Plan.{Plan}
 use Rattle.plan.specs.declared.FrameState.{FrameState}
 use Rattle.plan.specs.Rates.{rows_of}
-use Rattle.plan.specs.Places.{groupAt}
+use Rattle.plan.specs.Places.{group_at}
 use Rattle.codeword.specs.declared.Shape.{Shape}
-use Rattle.codeword.specs.Reading.{noPosition, Failing, PositionTold}
-use Rattle.slot.specs.Slots.{slotShape}
-use Rattle.slot.specs.Calls.{rows_at, readAnswer, checkAnswer}
-use Rattle.tmcc.specs.Blocks.{blockShape}
-use Rattle.tmcc.specs.Calls.{readAnswer as readBlockAnswer}
+use Rattle.codeword.specs.Reading.{no_position, Failing, PositionTold}
+use Rattle.slot.specs.Slots.{slot_shape}
+use Rattle.slot.specs.Calls.{rows_at, read_answer, check_answer}
+use Rattle.tmcc.specs.Blocks.{block_shape}
+use Rattle.tmcc.specs.Calls.{read_answer as readBlockAnswer}
 use Rattle.frame.specs.Tables.{table_of}
-use Rattle.frame.specs.Frames.{rowsOfSlot, slotIn, answersOf, positionsOf}
+use Rattle.frame.specs.Frames.{rows_of_slot, slot_in, answers_of, positions_of}
 
 -- "With refusal 8 the parity check .. also give[s] the lowest failing parity position (else 65535)": p below M, the bit received
 -- there not the parity's, every one before it the parity's
 abbrev pub CheckPositionTold : Type 0
 CheckPositionTold =
     (rate : ℕ) (t coded : List ℕ)
-    → PositionTold (slotShape (rows_of rate)) t coded (checkAnswer rate t coded).number (checkAnswer rate t coded).position
+    → PositionTold (slot_shape (rows_of rate)) t coded (check_answer rate t coded).number (check_answer rate t coded).position
 
 -- "the slot reader"
 abbrev pub SlotPositionTold : Type 0
 SlotPositionTold =
     (s : FrameState) (t coded source : List ℕ)
-    → PositionTold (slotShape (rows_at s)) t coded (readAnswer s t coded source).number (readAnswer s t coded source).position
+    → PositionTold (slot_shape (rows_at s)) t coded (read_answer s t coded source).number (read_answer s t coded source).position
 
 -- "the whole-frame reader": "Another lent list of 120 numbers of 16 bits takes them in the whole-frame call, 65535 where the slot's
 -- answer isn't 8"
 abbrev pub FramePositionsTold : Type 0
 FramePositionsTold =
     (p : Plan) (ts : List ℕ) (mask start : ℕ) (frame : List ℕ)
-    → (length (positionsOf p ts mask start frame) ≡ 120)
+    → (length (positions_of p ts mask start frame) ≡ 120)
     × ((k : ℕ) → k < 120
-    → PositionTold (slotShape (rowsOfSlot p (k + 1))) (table_of p ts (groupAt p (k + 1))) (slotIn frame k)
-    (get_or (answersOf p ts mask start frame) k 0) (get_or (positionsOf p ts mask start frame) k 0))
+    → PositionTold (slot_shape (rows_of_slot p (k + 1))) (table_of p ts (group_at p (k + 1))) (slot_in frame k)
+    (get_or (answers_of p ts mask start frame) k 0) (get_or (positions_of p ts mask start frame) k 0))
 
 -- "and the TMCC reader"
 abbrev pub BlockPositionTold : Type 0
 BlockPositionTold =
     (mask start : ℕ) (t block source : List ℕ)
-    → PositionTold blockShape t block (readBlockAnswer mask start t block source).number (readBlockAnswer mask start t block source).position
+    → PositionTold block_shape t block (readBlockAnswer mask start t block source).number (readBlockAnswer mask start t block source).position
 
 -- "the lowest": a received word has one at most, ..
 abbrev pub FailingOne : Type 0
@@ -49,4 +49,4 @@ FailingOne = (F : Shape) (t c : List ℕ) (p q : ℕ) → Failing F t c p → Fa
 
 -- .. and it is never taken for "65535"
 abbrev pub FailingBelow : Type 0
-FailingBelow = (F : Shape) (t c : List ℕ) (p : ℕ) → Failing F t c p → p < noPosition
+FailingBelow = (F : Shape) (t c : List ℕ) (p : ℕ) → Failing F t c p → p < no_position

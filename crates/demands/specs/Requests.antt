@@ -3,43 +3,43 @@
 use Rattle.std.specs.Prelude.{◌≡◌, true, false, not, ◌&&◌, List, [], ◌∷◌, ◌++◌, ◌↔◌, ℕ, ◌+◌, ◌*◌, ◌-◌, ◌%◌, ◌/◌, ◌<◌, eqb, length, get_or, replicate}
 use Rattle.lists.specs.Count.{first, table, joined}
 use Rattle.refusal.specs.Numbers.{PLAN, VALUE, ORDER, TOTAL}
-use Rattle.parity_table.specs.Tables.{positions, rowStart, tableOk}
+use Rattle.parity_table.specs.Tables.{positions, row_start, table_ok}
 use Rattle.ldpc.specs.Parity.{spacing, position, times}
-use Rattle.ldpc.specs.Stepping.{stepped, parityStepped}
+use Rattle.ldpc.specs.Stepping.{stepped, parity_stepped}
 use Rattle.ldpc.specs.Columns.{across, sum_at}
 use Rattle.ldpc.specs.Needs.{AddedThrough, AddedBySteps}
 use Rattle.plan.specs.declared.Plan.{Plan}
 use Rattle.plan.specs.declared.FrameState.{FrameState}
-use Rattle.plan.specs.Records.{ofColumns, planIn}
-use Rattle.plan.specs.Rates.{rateOk, rows_of, modulationOk}
-use Rattle.plan.specs.Plans.{groupsOk, allValuesOk, allFall, totalOk, planOk, planNumber}
+use Rattle.plan.specs.Records.{of_columns, plan_in}
+use Rattle.plan.specs.Rates.{rate_ok, rows_of, modulation_ok}
+use Rattle.plan.specs.Plans.{groups_ok, all_values_ok, all_fall, total_ok, plan_ok, plan_number}
 use Rattle.plan.specs.States.{opened, passed}
-use Rattle.plan_octets.specs.Groups.{ofOctets}
-use Rattle.plan_text.specs.Reading.{textNumber, plan_of as planOfText}
-use Rattle.run_list.specs.Listing.{listed, refusedText, answerText}
-use Rattle.published.specs.Published.{copyNumber}
-use Rattle.packets.specs.Packets.{packNumber, unpackNumber}
-use Rattle.symbols.specs.Labels.{slotNumber as labelsNumber, slotOfLabelsNumber}
+use Rattle.plan_octets.specs.Groups.{of_octets}
+use Rattle.plan_text.specs.Reading.{text_number, plan_of as planOfText}
+use Rattle.run_list.specs.Listing.{listed, refused_text, answer_text}
+use Rattle.published.specs.Published.{copy_number}
+use Rattle.packets.specs.Packets.{pack_number, unpack_number}
+use Rattle.symbols.specs.Labels.{slot_number as labelsNumber, slot_of_labels_number}
 use Rattle.codeword.specs.declared.Shape.{Shape}
-use Rattle.codeword.specs.Words.{parityInput, withParity}
-use Rattle.codeword.specs.Reading.{runIn, parityIn, wrongPosition}
-use Rattle.slot.specs.Slots.{slotShape}
-use Rattle.slot.specs.Calls.{codeAnswer, readAnswer as readSlotAnswer, checkNumber}
-use Rattle.tmcc.specs.Blocks.{blockRows, blockShape}
-use Rattle.frame.specs.Frames.{frameNumber, readFrameNumber}
-use Rattle.lookup.specs.Lookups.{tablesNumber, placed}
+use Rattle.codeword.specs.Words.{parity_input, with_parity}
+use Rattle.codeword.specs.Reading.{run_in, parity_in, wrong_position}
+use Rattle.slot.specs.Slots.{slot_shape}
+use Rattle.slot.specs.Calls.{code_answer, read_answer as readSlotAnswer, check_number}
+use Rattle.tmcc.specs.Blocks.{block_rows, block_shape}
+use Rattle.frame.specs.Frames.{frame_number, read_frame_number}
+use Rattle.lookup.specs.Lookups.{tables_number, placed}
 
 -- N1, "Every plan refused before is still refused, and no other": a plan is accepted exactly when it keeps all four rules
 abbrev pub PlanAccepted : Type 0
-PlanAccepted = (p : Plan) → (planNumber p ≡ 0) ↔ (planOk p ≡ true)
+PlanAccepted = (p : Plan) → (plan_number p ≡ 0) ↔ (plan_ok p ≡ true)
 
 -- "Keep 1 for a wrong number of groups", and "13 value .., 14 order .., 15 total .., tested after 1 in that order over the
 -- whole plan": the number of the first rule that is broken
 pub record FirstBroken (p : Plan) : Type 0 where
-  pub groups : groupsOk p ≡ false → planNumber p ≡ PLAN
-  pub value : groupsOk p ≡ true → allValuesOk p ≡ false → planNumber p ≡ VALUE
-  pub order : groupsOk p ≡ true → allValuesOk p ≡ true → allFall p ≡ false → planNumber p ≡ ORDER
-  pub total : groupsOk p ≡ true → allValuesOk p ≡ true → allFall p ≡ true → totalOk p ≡ false → planNumber p ≡ TOTAL
+  pub groups : groups_ok p ≡ false → plan_number p ≡ PLAN
+  pub value : groups_ok p ≡ true → all_values_ok p ≡ false → plan_number p ≡ VALUE
+  pub order : groups_ok p ≡ true → all_values_ok p ≡ true → all_fall p ≡ false → plan_number p ≡ ORDER
+  pub total : groups_ok p ≡ true → all_values_ok p ≡ true → all_fall p ≡ true → total_ok p ≡ false → plan_number p ≡ TOTAL
 
 abbrev pub PlanRefused : Type 0
 PlanRefused = (p : Plan) → FirstBroken p
@@ -48,24 +48,24 @@ PlanRefused = (p : Plan) → FirstBroken p
 -- the place of a slot, and plan-list's list
 pub record PlanAnswers (p : Plan) (n : ℕ) : Type 0 where
   pub opening : (mask start : ℕ) → (opened p mask start).number ≡ n
-  pub code : (mask start : ℕ) (ts : List ℕ) (source frame : ℕ) → frameNumber p mask start ts source frame ≡ n
-  pub read : (mask start : ℕ) (ts : List ℕ) (source frame answers stuff positions : ℕ) → readFrameNumber p mask start ts source frame answers stuff positions ≡ n
-  pub tables : (area : List ℕ) → tablesNumber p area ≡ n
+  pub code : (mask start : ℕ) (ts : List ℕ) (source frame : ℕ) → frame_number p mask start ts source frame ≡ n
+  pub read : (mask start : ℕ) (ts : List ℕ) (source frame answers stuff positions : ℕ) → read_frame_number p mask start ts source frame answers stuff positions ≡ n
+  pub tables : (area : List ℕ) → tables_number p area ≡ n
   pub place : (slot : ℕ) → (placed p (slot + 1)).number ≡ n
   pub list : (listed p).number ≡ n
 
 -- and every call which is handed a state
 pub record StateAnswers (s : FrameState) (n : ℕ) : Type 0 where
   pub pass : (passed s).number ≡ n
-  pub code : (t source coded : List ℕ) → (codeAnswer s t source coded).number ≡ n
+  pub code : (t source coded : List ℕ) → (code_answer s t source coded).number ≡ n
   pub read : (t coded source : List ℕ) → (readSlotAnswer s t coded source).number ≡ n
 
 -- a refused plan's number is the answer of each, whatever else is wrong
 abbrev pub RefusedPlanAnswered : Type 0
-RefusedPlanAnswered = (p : Plan) → (planNumber p ≡ 0 → ⊥) → PlanAnswers p (planNumber p)
+RefusedPlanAnswered = (p : Plan) → (plan_number p ≡ 0 → ⊥) → PlanAnswers p (plan_number p)
 
 abbrev pub RefusedStateAnswered : Type 0
-RefusedStateAnswered = (s : FrameState) → (s.slot ≡ 0 → ⊥) → (planNumber (planIn s) ≡ 0 → ⊥) → StateAnswers s (planNumber (planIn s))
+RefusedStateAnswered = (s : FrameState) → (s.slot ≡ 0 → ⊥) → (plan_number (plan_in s) ≡ 0 → ⊥) → StateAnswers s (plan_number (plan_in s))
 
 -- "Keep 1 for .. slot number 0"
 abbrev pub SlotZeroAnswered : Type 0
@@ -73,53 +73,53 @@ SlotZeroAnswered = ((s : FrameState) → s.slot ≡ 0 → StateAnswers s PLAN) �
 
 -- "or unreadable text"; "plan-list prints them too"
 pub record TextAnswered (t : List ℕ) : Type 0 where
-  pub unreadable : (textNumber t ≡ 0 → ⊥) → answerText t ≡ refusedText PLAN
-  pub refused : textNumber t ≡ 0 → (planNumber (planOfText t) ≡ 0 → ⊥) → answerText t ≡ refusedText (planNumber (planOfText t))
+  pub unreadable : (text_number t ≡ 0 → ⊥) → answer_text t ≡ refused_text PLAN
+  pub refused : text_number t ≡ 0 → (plan_number (planOfText t) ≡ 0 → ⊥) → answer_text t ≡ refused_text (plan_number (planOfText t))
 
 abbrev pub RefusedTextPrinted : Type 0
 RefusedTextPrinted = (t : List ℕ) → TextAnswered t
 
 -- "and in lone calls": "modulation or rate unknown"
 pub record LoneAnswered (m rate : ℕ) : Type 0 where
-  pub table : rateOk rate ≡ false → (area : List ℕ) → copyNumber rate area ≡ PLAN
-  pub pack : rateOk rate ≡ false → (packets : List ℕ) (room : ℕ) → packNumber rate packets room ≡ PLAN
-  pub unpack : rateOk rate ≡ false → (octets : List ℕ) (room : ℕ) → unpackNumber rate octets room ≡ PLAN
-  pub parity : rateOk rate ≡ false → (t coded : List ℕ) → checkNumber rate t coded ≡ PLAN
-  pub labels : (modulationOk m && rateOk rate) ≡ false → (octets room : ℕ) → labelsNumber m rate octets room ≡ PLAN
-  pub slot : (modulationOk m && rateOk rate) ≡ false → (labels : List ℕ) (room : ℕ) → slotOfLabelsNumber m rate labels room ≡ PLAN
+  pub table : rate_ok rate ≡ false → (area : List ℕ) → copy_number rate area ≡ PLAN
+  pub pack : rate_ok rate ≡ false → (packets : List ℕ) (room : ℕ) → pack_number rate packets room ≡ PLAN
+  pub unpack : rate_ok rate ≡ false → (octets : List ℕ) (room : ℕ) → unpack_number rate octets room ≡ PLAN
+  pub parity : rate_ok rate ≡ false → (t coded : List ℕ) → check_number rate t coded ≡ PLAN
+  pub labels : (modulation_ok m && rate_ok rate) ≡ false → (octets room : ℕ) → labelsNumber m rate octets room ≡ PLAN
+  pub slot : (modulation_ok m && rate_ok rate) ≡ false → (labels : List ℕ) (room : ℕ) → slot_of_labels_number m rate labels room ≡ PLAN
 
 abbrev pub UnknownRefused : Type 0
 UnknownRefused = (m rate : ℕ) → LoneAnswered m rate
 
 -- the number of a plan of so many groups, whose modulations, rates and slots are said one group behind the other
-abbrev pub groupsNumber : ℕ → List ℕ → ℕ
-groupsNumber count groups = planNumber (ofOctets count groups)
+abbrev pub groups_number : ℕ → List ℕ → ℕ
+groups_number count groups = plan_number (of_octets count groups)
 
 -- a plan with a count of nine over columns of eight groups of modulation 1, each with its rate: seven of 10 slots, and the last of
 -- so many
-abbrev pub nineGroups : (ℕ → ℕ) → ℕ → Plan
-nineGroups rate last = ofColumns 9 (replicate 8 1) (table 8 rate) (replicate 7 10 ++ (last ∷ []))
+abbrev pub nine_groups : (ℕ → ℕ) → ℕ → Plan
+nine_groups rate last = of_columns 9 (replicate 8 1) (table 8 rate) (replicate 7 10 ++ (last ∷ []))
 
 -- THE CASES WORKED BY HAND, and plans that break each of the rules and each pair of them
 pub record WorkedPlans : Type 0 where
   -- "Counts 115 + 5 accepted"
-  pub accepted : groupsNumber 2 (4 ∷ 7 ∷ 115 ∷ 2 ∷ 3 ∷ 5 ∷ []) ≡ 0
+  pub accepted : groups_number 2 (4 ∷ 7 ∷ 115 ∷ 2 ∷ 3 ∷ 5 ∷ []) ≡ 0
   -- "So 115 alone is now 15, and 116 + 4 is 13"
-  pub alone : groupsNumber 1 (4 ∷ 7 ∷ 115 ∷ []) ≡ TOTAL
-  pub no-fives : groupsNumber 2 (4 ∷ 7 ∷ 116 ∷ 2 ∷ 3 ∷ 4 ∷ []) ≡ VALUE
+  pub alone : groups_number 1 (4 ∷ 7 ∷ 115 ∷ []) ≡ TOTAL
+  pub no_fives : groups_number 2 (4 ∷ 7 ∷ 116 ∷ 2 ∷ 3 ∷ 4 ∷ []) ≡ VALUE
   -- groups that rise
-  pub rising : groupsNumber 2 (2 ∷ 3 ∷ 5 ∷ 4 ∷ 7 ∷ 115 ∷ []) ≡ ORDER
+  pub rising : groups_number 2 (2 ∷ 3 ∷ 5 ∷ 4 ∷ 7 ∷ 115 ∷ []) ≡ ORDER
   -- "Nine groups 1", as columns and as octets of groups
-  pub nine : planNumber (nineGroups (λ g. 9 - g) 50) ≡ PLAN
-  pub nine-lent : groupsNumber 9 (joined 8 (λ g. 1 ∷ (9 - g) ∷ 15 ∷ [])) ≡ PLAN
+  pub nine : plan_number (nine_groups (λ g. 9 - g) 50) ≡ PLAN
+  pub nine_lent : groups_number 9 (joined 8 (λ g. 1 ∷ (9 - g) ∷ 15 ∷ [])) ≡ PLAN
   -- nine groups with rate 12, that rise, of 125 slots
-  pub nine-value : planNumber (nineGroups (λ g. 12 - g) 50) ≡ PLAN
-  pub nine-order : planNumber (nineGroups (λ g. 1 + g) 50) ≡ PLAN
-  pub nine-total : planNumber (nineGroups (λ g. 9 - g) 55) ≡ PLAN
+  pub nine_value : plan_number (nine_groups (λ g. 12 - g) 50) ≡ PLAN
+  pub nine_order : plan_number (nine_groups (λ g. 1 + g) 50) ≡ PLAN
+  pub nine_total : plan_number (nine_groups (λ g. 9 - g) 55) ≡ PLAN
   -- 4 + 116 that rise, rate 12 in 115 slots, groups that rise to 115 slots
-  pub value-order : groupsNumber 2 (2 ∷ 3 ∷ 4 ∷ 4 ∷ 7 ∷ 116 ∷ []) ≡ VALUE
-  pub value-total : groupsNumber 1 (4 ∷ 12 ∷ 115 ∷ []) ≡ VALUE
-  pub order-total : groupsNumber 2 (2 ∷ 3 ∷ 5 ∷ 4 ∷ 7 ∷ 110 ∷ []) ≡ ORDER
+  pub value_order : groups_number 2 (2 ∷ 3 ∷ 4 ∷ 4 ∷ 7 ∷ 116 ∷ []) ≡ VALUE
+  pub value_total : groups_number 1 (4 ∷ 12 ∷ 115 ∷ []) ≡ VALUE
+  pub order_total : groups_number 2 (2 ∷ 3 ∷ 5 ∷ 4 ∷ 7 ∷ 110 ∷ []) ≡ ORDER
 
 -- N3, what a row's bits that are added through an address do to the sums: bit n is added at document 01's position, and nothing
 -- is anywhere else
@@ -145,21 +145,21 @@ pub record SteppedThrough (rows a : ℕ) : Type 0 where
 -- "step by q and subtract M when it is reached, in coding and checking": of words of one shape, under a table
 pub record WordStepped (F : Shape) (t : List ℕ) : Type 0 where
   -- every address of every row
-  pub addresses : (r i : ℕ) → r < F.rows → i < get_or t (rowStart t r) 0 → SteppedThrough F.rows (get_or t (rowStart t r + 1 + i) 0)
+  pub addresses : (r i : ℕ) → r < F.rows → i < get_or t (row_start t r) 0 → SteppedThrough F.rows (get_or t (row_start t r + 1 + i) 0)
   -- what the coder and the check leave in the columns: the sum of each position has what document 01 adds there
   pub sums :
       (u found columns : List ℕ) → length found ≡ positions F.rows → AddedBySteps F.rows t u found columns
       → (p : ℕ) → p < positions F.rows
       → sum_at (spacing F.rows) columns p % 2 ≡ (sum_at (spacing F.rows) found p + times F.rows t u p) % 2
   -- the parity that is sent, and the position that the check answers
-  pub coded : (d : List ℕ) → withParity F t d ≡ d ++ parityStepped F.rows t (parityInput F d)
+  pub coded : (d : List ℕ) → with_parity F t d ≡ d ++ parity_stepped F.rows t (parity_input F d)
   pub checked :
       (c : List ℕ)
-      → wrongPosition F t c
-      ≡ first (positions F.rows) (λ j. not (eqb (get_or (parityStepped F.rows t (parityInput F (runIn F c))) j 0) (get_or (parityIn F c) j 0)))
+      → wrong_position F t c
+      ≡ first (positions F.rows) (λ j. not (eqb (get_or (parity_stepped F.rows t (parity_input F (run_in F c))) j 0) (get_or (parity_in F c) j 0)))
 
 -- "for every accepted table", "TMCC too": slots of every rate, and TMCC blocks
 abbrev pub PositionsStepped : Type 0
 PositionsStepped =
-    ((rate : ℕ) (t : List ℕ) → tableOk (rows_of rate) t ≡ true → WordStepped (slotShape (rows_of rate)) t)
-    × ((t : List ℕ) → tableOk blockRows t ≡ true → WordStepped blockShape t)
+    ((rate : ℕ) (t : List ℕ) → table_ok (rows_of rate) t ≡ true → WordStepped (slot_shape (rows_of rate)) t)
+    × ((t : List ℕ) → table_ok block_rows t ≡ true → WordStepped block_shape t)

@@ -7,46 +7,46 @@ use Rattle.bits.specs.Octets.{bits_of}
 use Rattle.plan.specs.declared.Plan.{Plan}
 use Rattle.plan.specs.declared.FrameState.{FrameState}
 use Rattle.codeword.specs.Words.{word_of}
-use Rattle.slot.specs.Slots.{stuffBits, slotShape}
-use Rattle.slot.specs.Reading.{noStuff, stuffOnes}
-use Rattle.slot.specs.Calls.{rows_at, slotNumber, nextState, readAnswer, readArea, Reads}
-use Rattle.frame.specs.Frames.{answersOf, stuffsOf}
+use Rattle.slot.specs.Slots.{stuff_bits, slot_shape}
+use Rattle.slot.specs.Reading.{no_stuff, stuff_ones}
+use Rattle.slot.specs.Calls.{rows_at, slot_number, next_state, read_answer, read_area, Reads}
+use Rattle.frame.specs.Frames.{answers_of, stuffs_of}
 use Rattle.demands.specs.CallStatements.{EveryCall}
 
 -- "with sound checks": the slot of header and data at a state's place, as coding makes it but for six stuff bits e
-abbrev pub slotWith : FrameState → List ℕ → List ℕ → List ℕ → List ℕ
-slotWith s t source e = word_of (slotShape (rows_at s)) t s.mask s.register (bits_of source) e
+abbrev pub slot_with : FrameState → List ℕ → List ℕ → List ℕ → List ℕ
+slot_with s t source e = word_of (slot_shape (rows_at s)) t s.mask s.register (bits_of source) e
 
 -- "The reader accepts any six stuff bits and returns them as a number from 0 to 63", with header and data, and the state one
 -- place on
 abbrev pub AnyStuffRead : Type 0
 AnyStuffRead =
     (s : FrameState) (t source out e : List ℕ) → Octets source → length out ≡ length source → Bits e → length e ≡ 6
-    → slotNumber s t out (slotWith s t source e) ≡ 0
-    → Reads (readAnswer s t (slotWith s t source e) out) (readArea s t (slotWith s t source e) out) (nextState s) (number 6 e) source
+    → slot_number s t out (slot_with s t source e) ≡ 0
+    → Reads (read_answer s t (slot_with s t source e) out) (read_area s t (slot_with s t source e) out) (next_state s) (number 6 e) source
 
 -- that number, worked: "as zeros", "first bit the highest", and the ones that coding sends
 pub record WorkedStuff : Type 0 where
   pub zeros : number 6 (replicate 6 0) ≡ 0
   pub first : number 6 (1 ∷ replicate 5 0) ≡ 32
   pub last : number 6 (replicate 5 0 ++ (1 ∷ [])) ≡ 1
-  pub ones : number 6 stuffBits ≡ stuffOnes
+  pub ones : number 6 stuff_bits ≡ stuff_ones
 
 -- "a number from 0 to 63 .. (255 with a refusal)": stuff bits x beside the number n of a reading
 pub record StuffAnswered (n x : ℕ) : Type 0 where
   pub accepted : n ≡ 0 → x ≤ 63
-  pub refused : (n ≡ 0 → ⊥) → x ≡ noStuff
+  pub refused : (n ≡ 0 → ⊥) → x ≡ no_stuff
 
 abbrev pub SlotStuffAnswered : Type 0
 SlotStuffAnswered =
-    (s : FrameState) (t coded source : List ℕ) → StuffAnswered (readAnswer s t coded source).number (readAnswer s t coded source).stuff
+    (s : FrameState) (t coded source : List ℕ) → StuffAnswered (read_answer s t coded source).number (read_answer s t coded source).stuff
 
 -- "a whole-frame read puts them in 120 further octets, 255 where the slot's answer isn't 0"
 abbrev pub FrameStuffAnswered : Type 0
 FrameStuffAnswered =
     (p : Plan) (ts : List ℕ) (mask start : ℕ) (frame : List ℕ)
-    → (length (stuffsOf p ts mask start frame) ≡ 120)
-    × ((k : ℕ) → k < 120 → StuffAnswered (get_or (answersOf p ts mask start frame) k 0) (get_or (stuffsOf p ts mask start frame) k 0))
+    → (length (stuffs_of p ts mask start frame) ≡ 120)
+    × ((k : ℕ) → k < 120 → StuffAnswered (get_or (answers_of p ts mask start frame) k 0) (get_or (stuffs_of p ts mask start frame) k 0))
 
 -- "Number 10 never occurs again": no call answers it, and no answer octet of a frame is it
 abbrev pub NotTen : ℕ → Type 0

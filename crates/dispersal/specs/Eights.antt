@@ -9,13 +9,13 @@ unfoldable pub drawn : ℕ → ℕ → ℕ
 drawn mask m = bit_xor (m / 2) (m % 2 * mask)
 
 -- the mask of the feedback n steps on
-unfoldable pub maskAt : ℕ → ℕ → ℕ
-maskAt mask zero = mask
-maskAt mask (suc n) = drawn mask (maskAt mask n)
+unfoldable pub mask_at : ℕ → ℕ → ℕ
+mask_at mask zero = mask
+mask_at mask (suc n) = drawn mask (mask_at mask n)
 
 -- those of eight steps, of the mask cut to the width
-unfoldable pub masksOf : ℕ → ℕ → List ℕ
-masksOf w mask = table 8 (maskAt (mask % 2 ^ w))
+unfoldable pub masks_of : ℕ → ℕ → List ℕ
+masks_of w mask = table 8 (mask_at (mask % 2 ^ w))
 
 -- the feedback bits of n steps as a number, by masks for the register as it stands
 unfoldable pub feedback : List ℕ → ℕ → ℕ → ℕ

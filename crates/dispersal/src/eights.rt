@@ -1,13 +1,13 @@
 // The register eight steps on, at once. Whether a register shares an odd number of ones with a mask is linear in both, so
 // the feedback some steps on is that of the register as it stands with another mask.
 ghost use Rattle.std.specs.Prelude.{◌≡◌, ◌+◌, ◌*◌, ◌%◌, ◌^◌};
-ghost use Rattle.dispersal.specs.Eights.{masksOf, feedback};
+ghost use Rattle.dispersal.specs.Eights.{masks_of, feedback};
 ghost use Rattle.dispersal.specs.Needs.{Held, Room};
 
 // Makes the masks of eight feedback bits: each is the one before it, drawn back by a step.
 pub fn fill_masks(width: u32, mask: u32, masks: &mut [u32])
     requires { Room width masks.old }
-    ensures { masks.new ≡ masksOf width mask }
+    ensures { masks.new ≡ masks_of width mask }
 {
     let taps = mask % (1u32 << width);
     let mut next = taps;

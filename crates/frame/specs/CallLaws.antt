@@ -5,61 +5,61 @@ use Rattle.std.proofs.Common.{arith}
 use borrow.Author.Tests.{eqb-true, eq-eqb}
 use Rattle.std.proofs.Math.Dec.{eqb}
 use Rattle.lists.specs.Choice.{pick, and_then}
-use Rattle.lists.specs.ChoiceLaws.{and_left, and_right, then-zero, not-refused}
+use Rattle.lists.specs.ChoiceLaws.{and_left, and_right, then_zero, not_refused}
 use Rattle.refusal.specs.Numbers.{LENGTH, TABLE}
-use Rattle.plan.specs.Sizes.{frameOctets}
+use Rattle.plan.specs.Sizes.{frame_octets}
 use Rattle.plan.specs.declared.Plan.{Plan}
-use Rattle.plan.specs.States.{openNumber}
-use Rattle.frame.specs.Tables.{tablesOk}
-use Rattle.frame.specs.Frames.{sourceFrom, wholeNumber, frameNumber, readFrameNumber}
+use Rattle.plan.specs.States.{open_number}
+use Rattle.frame.specs.Tables.{tables_ok}
+use Rattle.frame.specs.Frames.{source_from, whole_number, frame_number, read_frame_number}
 
 -- an accepted plan with its settings and tables, and areas of these lengths
 pub record Lent (p : Plan) (mask start : ℕ) (ts : List ℕ) (source frame : ℕ) : Type 0 where
-  pub opened : openNumber p mask start ≡ 0
-  pub source-long : source ≡ sourceFrom p 120
-  pub frame-long : frame ≡ frameOctets
-  pub tables : tablesOk p ts ≡ true
+  pub opened : open_number p mask start ≡ 0
+  pub source_long : source ≡ source_from p 120
+  pub frame_long : frame ≡ frame_octets
+  pub tables : tables_ok p ts ≡ true
 
 -- the tests of a whole-frame call, over the one of its lengths
 tested : (o : ℕ) (l t : Bool) → and_then o (and_then (pick l 0 LENGTH) (pick t 0 TABLE)) ≡ 0 → (o ≡ 0) × (l ≡ true) × (t ≡ true)
 tested o l t h =
-    let a = then-zero o _ h in
-    let b = then-zero (pick l 0 LENGTH) _ a.1 in
-    (a.0, not-refused l LENGTH (omega arith) b.0, not-refused t TABLE (omega arith) b.1)
+    let a = then_zero o _ h in
+    let b = then_zero (pick l 0 LENGTH) _ a.1 in
+    (a.0, not_refused l LENGTH (omega arith) b.0, not_refused t TABLE (omega arith) b.1)
 
 module _ (p : Plan) (mask start : ℕ) (ts : List ℕ) (source frame : ℕ) where
-  whole-lent : (each : Bool) → wholeNumber p mask start ts source frame each ≡ 0 → (each ≡ true) × Lent p mask start ts source frame
-  unfolding wholeNumber
-  whole-lent each h =
-      let lengths = eqb source (sourceFrom p 120) && eqb frame frameOctets in
-      let a = tested (openNumber p mask start) (each && lengths) (tablesOk p ts) h in
+  whole_lent : (each : Bool) → whole_number p mask start ts source frame each ≡ 0 → (each ≡ true) × Lent p mask start ts source frame
+  unfolding whole_number
+  whole_lent each h =
+      let lengths = eqb source (source_from p 120) && eqb frame frame_octets in
+      let a = tested (open_number p mask start) (each && lengths) (tables_ok p ts) h in
       let b = and_right each lengths a.1 in (
         and_left each lengths a.1,
         record {
           opened = a.0;
-          source-long = eqb-true source (sourceFrom p 120) (and_left (eqb source (sourceFrom p 120)) _ b);
-          frame-long = eqb-true frame frameOctets (and_right (eqb source (sourceFrom p 120)) _ b);
+          source_long = eqb-true source (source_from p 120) (and_left (eqb source (source_from p 120)) _ b);
+          frame_long = eqb-true frame frame_octets (and_right (eqb source (source_from p 120)) _ b);
           tables = a.2;
         },
       )
 
-  whole-yes : Lent p mask start ts source frame → wholeNumber p mask start ts source frame true ≡ 0
-  unfolding wholeNumber
-  whole-yes l = rw (l.opened, eq-eqb source (sourceFrom p 120) l.source-long, eq-eqb frame frameOctets l.frame-long, l.tables)
+  whole_yes : Lent p mask start ts source frame → whole_number p mask start ts source frame true ≡ 0
+  unfolding whole_number
+  whole_yes l = rw (l.opened, eq-eqb source (source_from p 120) l.source_long, eq-eqb frame frame_octets l.frame_long, l.tables)
 
-  pub frame-lent : frameNumber p mask start ts source frame ≡ 0 → Lent p mask start ts source frame
-  unfolding frameNumber
-  frame-lent h = (whole-lent true h).1
+  pub frame_lent : frame_number p mask start ts source frame ≡ 0 → Lent p mask start ts source frame
+  unfolding frame_number
+  frame_lent h = (whole_lent true h).1
 
-  pub frame-yes : Lent p mask start ts source frame → frameNumber p mask start ts source frame ≡ 0
-  unfolding frameNumber
-  frame-yes = whole-yes
+  pub frame_yes : Lent p mask start ts source frame → frame_number p mask start ts source frame ≡ 0
+  unfolding frame_number
+  frame_yes = whole_yes
 
-  pub read-lent : (answers stuff positions : ℕ) → readFrameNumber p mask start ts source frame answers stuff positions ≡ 0
+  pub read_lent : (answers stuff positions : ℕ) → read_frame_number p mask start ts source frame answers stuff positions ≡ 0
       → (answers ≡ 120) × (stuff ≡ 120) × (positions ≡ 120) × Lent p mask start ts source frame
-  unfolding readFrameNumber
-  read-lent answers stuff positions h =
-      let a = whole-lent (eqb answers 120 && eqb stuff 120 && eqb positions 120) h in
+  unfolding read_frame_number
+  read_lent answers stuff positions h =
+      let a = whole_lent (eqb answers 120 && eqb stuff 120 && eqb positions 120) h in
       let b = and_left (eqb answers 120 && eqb stuff 120) _ a.0 in (
         eqb-true answers 120 (and_left (eqb answers 120) _ b),
         eqb-true stuff 120 (and_right (eqb answers 120) _ b),
@@ -67,7 +67,7 @@ module _ (p : Plan) (mask start : ℕ) (ts : List ℕ) (source frame : ℕ) wher
         a.1,
       )
 
-  pub read-yes : (answers stuff positions : ℕ) → answers ≡ 120 → stuff ≡ 120 → positions ≡ 120 → Lent p mask start ts source frame
-      → readFrameNumber p mask start ts source frame answers stuff positions ≡ 0
-  unfolding readFrameNumber
-  read-yes answers stuff positions e d i l = rw (eq-eqb answers 120 e, eq-eqb stuff 120 d, eq-eqb positions 120 i) (whole-yes l)
+  pub read_yes : (answers stuff positions : ℕ) → answers ≡ 120 → stuff ≡ 120 → positions ≡ 120 → Lent p mask start ts source frame
+      → read_frame_number p mask start ts source frame answers stuff positions ≡ 0
+  unfolding read_frame_number
+  read_yes answers stuff positions e d i l = rw (eq-eqb answers 120 e, eq-eqb stuff 120 d, eq-eqb positions 120 i) (whole_yes l)

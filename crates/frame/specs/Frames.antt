@@ -7,80 +7,80 @@ use Rattle.lists.specs.Parts.{part}
 use Rattle.refusal.specs.Numbers.{LENGTH, TABLE}
 use Rattle.plan.specs.declared.Plan.{Plan}
 use Rattle.plan.specs.declared.FrameState.{FrameState}
-use Rattle.plan.specs.Sizes.{slotOctets, frameOctets}
-use Rattle.plan.specs.Records.{stateAt}
+use Rattle.plan.specs.Sizes.{slot_octets, frame_octets}
+use Rattle.plan.specs.Records.{state_at}
 use Rattle.plan.specs.Rates.{rows_of}
-use Rattle.plan.specs.Plans.{rateOf}
-use Rattle.plan.specs.Places.{groupAt, carries}
-use Rattle.plan.specs.States.{openNumber}
-use Rattle.slot.specs.Slots.{sourceOctets, registerAfter}
-use Rattle.frame.specs.Tables.{tablesOk}
-use Rattle.frame.specs.Steps.{codedAt, answerAt, stuffAt, positionAt, readAt}
+use Rattle.plan.specs.Plans.{rate_of}
+use Rattle.plan.specs.Places.{group_at, carries}
+use Rattle.plan.specs.States.{open_number}
+use Rattle.slot.specs.Slots.{source_octets, register_after}
+use Rattle.frame.specs.Tables.{tables_ok}
+use Rattle.frame.specs.Steps.{coded_at, answer_at, stuff_at, position_at, read_at}
 
 -- the rows of slot s's parity table
-abbrev pub rowsOfSlot : Plan → ℕ → ℕ
-rowsOfSlot p s = rows_of (rateOf p (groupAt p s))
+abbrev pub rows_of_slot : Plan → ℕ → ℕ
+rows_of_slot p s = rows_of (rate_of p (group_at p s))
 
 -- the register before slot k + 1: each data slot before it stepped it, and it "stands still over parity and dummies"
-unfoldable pub registerBefore : Plan → ℕ → ℕ → ℕ → ℕ
-registerBefore p mask start zero = start
-registerBefore p mask start (suc k) =
-    pick (carries p (k + 1)) (registerAfter (rowsOfSlot p (k + 1)) mask (registerBefore p mask start k)) (registerBefore p mask start k)
+unfoldable pub register_before : Plan → ℕ → ℕ → ℕ → ℕ
+register_before p mask start zero = start
+register_before p mask start (suc k) =
+    pick (carries p (k + 1)) (register_after (rows_of_slot p (k + 1)) mask (register_before p mask start k)) (register_before p mask start k)
 
 -- the state before slot k + 1: "It starts from plan and settings at slot 1"
-abbrev pub stateBefore : Plan → ℕ → ℕ → ℕ → FrameState
-stateBefore p mask start k = stateAt p mask start (k + 1) (registerBefore p mask start k)
+abbrev pub state_before : Plan → ℕ → ℕ → ℕ → FrameState
+state_before p mask start k = state_at p mask start (k + 1) (register_before p mask start k)
 
 -- "slot s in its own part starting at octet 5,610 × (s − 1)"
-abbrev pub slotIn : List ℕ → ℕ → List ℕ
-slotIn area k = part (slotOctets * k) (slotOctets * (k + 1)) area
+abbrev pub slot_in : List ℕ → ℕ → List ℕ
+slot_in area k = part (slot_octets * k) (slot_octets * (k + 1)) area
 
 -- the header and data octets of slot s; a dummy has none
-unfoldable pub octetsOfSlot : Plan → ℕ → ℕ
-octetsOfSlot p s = pick (carries p s) (sourceOctets (rowsOfSlot p s)) 0
+unfoldable pub octets_of_slot : Plan → ℕ → ℕ
+octets_of_slot p s = pick (carries p s) (source_octets (rows_of_slot p s)) 0
 
 -- "In the other area the data slots lie end to end": where the header and data octets of slot k + 1 begin
-unfoldable pub sourceFrom : Plan → ℕ → ℕ
-sourceFrom p k = sum k (λ i. octetsOfSlot p (i + 1))
+unfoldable pub source_from : Plan → ℕ → ℕ
+source_from p k = sum k (λ i. octets_of_slot p (i + 1))
 
-abbrev pub sourceIn : Plan → List ℕ → ℕ → List ℕ
-sourceIn p area k = part (sourceFrom p k) (sourceFrom p (k + 1)) area
+abbrev pub source_in : Plan → List ℕ → ℕ → List ℕ
+source_in p area k = part (source_from p k) (source_from p (k + 1)) area
 
 -- the coded frame, from all header and data octets, in an area with what was found in it
 unfoldable pub frame_of : Plan → List ℕ → ℕ → ℕ → List ℕ → List ℕ → List ℕ
 frame_of p ts mask start source found =
-    joined 120 (λ k. codedAt (stateBefore p mask start k) ts (sourceIn p source k) (slotIn found k))
+    joined 120 (λ k. coded_at (state_before p mask start k) ts (source_in p source k) (slot_in found k))
 
 -- the 120 answer octets of a received frame: "one for each slot"
-unfoldable pub answersOf : Plan → List ℕ → ℕ → ℕ → List ℕ → List ℕ
-answersOf p ts mask start frame = table 120 (λ k. answerAt (stateBefore p mask start k) ts (slotIn frame k))
+unfoldable pub answers_of : Plan → List ℕ → ℕ → ℕ → List ℕ → List ℕ
+answers_of p ts mask start frame = table 120 (λ k. answer_at (state_before p mask start k) ts (slot_in frame k))
 
 -- "a whole-frame read puts them in 120 further octets" (document 02, N5): the stuff bits of each slot
-unfoldable pub stuffsOf : Plan → List ℕ → ℕ → ℕ → List ℕ → List ℕ
-stuffsOf p ts mask start frame = table 120 (λ k. stuffAt (stateBefore p mask start k) ts (slotIn frame k))
+unfoldable pub stuffs_of : Plan → List ℕ → ℕ → ℕ → List ℕ → List ℕ
+stuffs_of p ts mask start frame = table 120 (λ k. stuff_at (state_before p mask start k) ts (slot_in frame k))
 
 -- "Another lent list of 120 numbers of 16 bits takes them in the whole-frame call" (document 02, N7): the failing positions
-unfoldable pub positionsOf : Plan → List ℕ → ℕ → ℕ → List ℕ → List ℕ
-positionsOf p ts mask start frame = table 120 (λ k. positionAt (stateBefore p mask start k) ts (slotIn frame k))
+unfoldable pub positions_of : Plan → List ℕ → ℕ → ℕ → List ℕ → List ℕ
+positions_of p ts mask start frame = table 120 (λ k. position_at (state_before p mask start k) ts (slot_in frame k))
 
 -- all header and data octets of a received frame, in an area with what was found in it
-unfoldable pub sourcesOf : Plan → List ℕ → ℕ → ℕ → List ℕ → List ℕ → List ℕ
-sourcesOf p ts mask start frame found =
-    joined 120 (λ k. readAt (stateBefore p mask start k) ts (slotIn frame k) (sourceIn p found k))
+unfoldable pub sources_of : Plan → List ℕ → ℕ → ℕ → List ℕ → List ℕ → List ℕ
+sources_of p ts mask start frame found =
+    joined 120 (λ k. read_at (state_before p mask start k) ts (slot_in frame k) (source_in p found k))
 
 -- "Whole frame: 1, 6, 4, 5", 1 and 6 as in opening, with the lengths of the two areas, and whether the areas that have an entry
 -- for each slot are of 120
-unfoldable pub wholeNumber : Plan → ℕ → ℕ → List ℕ → ℕ → ℕ → Bool → ℕ
-wholeNumber p mask start ts source frame each =
-    and_then (openNumber p mask start)
-    (and_then (pick (each && (eqb source (sourceFrom p 120) && eqb frame frameOctets)) 0 LENGTH)
-    (pick (tablesOk p ts) 0 TABLE))
+unfoldable pub whole_number : Plan → ℕ → ℕ → List ℕ → ℕ → ℕ → Bool → ℕ
+whole_number p mask start ts source frame each =
+    and_then (open_number p mask start)
+    (and_then (pick (each && (eqb source (source_from p 120) && eqb frame frame_octets)) 0 LENGTH)
+    (pick (tables_ok p ts) 0 TABLE))
 
 -- coding has none of these
-unfoldable pub frameNumber : Plan → ℕ → ℕ → List ℕ → ℕ → ℕ → ℕ
-frameNumber p mask start ts source frame = wholeNumber p mask start ts source frame true
+unfoldable pub frame_number : Plan → ℕ → ℕ → List ℕ → ℕ → ℕ → ℕ
+frame_number p mask start ts source frame = whole_number p mask start ts source frame true
 
 -- reading has the answers, the stuff bits and the failing positions
-unfoldable pub readFrameNumber : Plan → ℕ → ℕ → List ℕ → ℕ → ℕ → ℕ → ℕ → ℕ → ℕ
-readFrameNumber p mask start ts source frame answers stuff positions =
-    wholeNumber p mask start ts source frame (eqb answers 120 && eqb stuff 120 && eqb positions 120)
+unfoldable pub read_frame_number : Plan → ℕ → ℕ → List ℕ → ℕ → ℕ → ℕ → ℕ → ℕ → ℕ
+read_frame_number p mask start ts source frame answers stuff positions =
+    whole_number p mask start ts source frame (eqb answers 120 && eqb stuff 120 && eqb positions 120)

@@ -3,20 +3,20 @@
 use Rattle.std.specs.Prelude.{Bool, ◌&&◌, List, ℕ, zero, suc, ◌+◌, eqb, length, drop}
 use Rattle.lists.specs.Count.{every}
 use Rattle.lists.specs.Parts.{part}
-use Rattle.parity_table.specs.Tables.{tableOk, tableLength}
+use Rattle.parity_table.specs.Tables.{table_ok, table_length}
 use Rattle.plan.specs.declared.Plan.{Plan}
 use Rattle.plan.specs.Rates.{rows_of}
-use Rattle.plan.specs.Plans.{rateOf}
+use Rattle.plan.specs.Plans.{rate_of}
 
 -- where the table of group g begins: behind the one before it
-unfoldable pub tableFrom : Plan → List ℕ → ℕ → ℕ
-tableFrom p ts zero = 0
-tableFrom p ts (suc g) = tableFrom p ts g + tableLength (rows_of (rateOf p g)) (drop (tableFrom p ts g) ts)
+unfoldable pub table_from : Plan → List ℕ → ℕ → ℕ
+table_from p ts zero = 0
+table_from p ts (suc g) = table_from p ts g + table_length (rows_of (rate_of p g)) (drop (table_from p ts g) ts)
 
 -- the table of group g
 unfoldable pub table_of : Plan → List ℕ → ℕ → List ℕ
-table_of p ts g = part (tableFrom p ts g) (tableFrom p ts (g + 1)) ts
+table_of p ts g = part (table_from p ts g) (table_from p ts (g + 1)) ts
 
 -- refusal 5: each group has an accepted table, and nothing follows
-unfoldable pub tablesOk : Plan → List ℕ → Bool
-tablesOk p ts = every p.count (λ g. tableOk (rows_of (rateOf p g)) (table_of p ts g)) && eqb (tableFrom p ts p.count) (length ts)
+unfoldable pub tables_ok : Plan → List ℕ → Bool
+tables_ok p ts = every p.count (λ g. table_ok (rows_of (rate_of p g)) (table_of p ts g)) && eqb (table_from p ts p.count) (length ts)

@@ -1,6 +1,6 @@
 // The number of a whole-frame call.
 ghost use Rattle.std.specs.Prelude.{◌≡◌, length};
-ghost use Rattle.frame.specs.Frames.{wholeNumber};
+ghost use Rattle.frame.specs.Frames.{whole_number};
 ghost use Rattle.frame.specs.Needs.{Ends};
 
 use crate::sources::source_length;
@@ -20,7 +20,7 @@ pub fn frame_number(
     ends: &mut [usize],
 ) -> u8
     requires { length ends.old ≡ 9 }
-    ensures value { result ≡ wholeNumber plan mask start tables.now source frame each }
+    ensures value { result ≡ whole_number plan mask start tables.now source frame each }
     ensures ends { result ≡ 0 → Ends plan tables.now ends.new }
 {
     let opened = plan::open(plan, mask, start);

@@ -1,6 +1,6 @@
 // The groups' parity tables, end to end.
 ghost use Rattle.std.specs.Prelude.{◌≡◌, true};
-ghost use Rattle.frame.specs.Tables.{tablesOk};
+ghost use Rattle.frame.specs.Tables.{tables_ok};
 ghost use Rattle.frame.specs.Needs.{Ends, Found};
 
 use plan::Plan;
@@ -9,7 +9,7 @@ use plan::Plan;
 // one ends.
 pub fn find_tables(plan: Plan, tables: &[u16], ends: &mut [usize]) -> bool
     requires { Found plan ends.old }
-    ensures value { result ≡ tablesOk plan tables.now }
+    ensures value { result ≡ tables_ok plan tables.now }
     ensures ends { result ≡ true → Ends plan tables.now ends.new }
 {
     let count = lists::index(plan.count);

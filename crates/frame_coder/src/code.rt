@@ -1,8 +1,8 @@
 // The slots of a frame, coded one behind the other into one area.
 ghost use Rattle.std.specs.Prelude.{◌≡◌, length};
 ghost use Rattle.refusal.specs.Answers.{Answered};
-ghost use Rattle.frame.specs.Steps.{codedAt, stateAfter};
-ghost use Rattle.frame.specs.Frames.{frame_of, frameNumber};
+ghost use Rattle.frame.specs.Steps.{coded_at, state_after};
+ghost use Rattle.frame.specs.Frames.{frame_of, frame_number};
 ghost use Rattle.frame.specs.Needs.{Framed};
 ghost use Rattle.frame_coder.specs.Needs.{Coding};
 
@@ -17,8 +17,8 @@ fn code_place(
     coded: &mut [u8],
 ) -> FrameState
     requires { Coding state tables.now ends.now source.now coded.old }
-    ensures value { result ≡ stateAfter state }
-    ensures coded_after { coded.new ≡ codedAt state tables.now source.now coded.old }
+    ensures value { result ≡ state_after state }
+    ensures coded_after { coded.new ≡ coded_at state tables.now source.now coded.old }
 {
     let place = plan::next_place(state);
     if place.carries {
@@ -70,7 +70,7 @@ pub fn code_frame(
     source: &[u8],
     frame: &mut [u8],
 ) -> u8
-    ensures { Answered (frameNumber plan mask start tables.now (length source.now) (length frame.old)) (frame_of plan tables.now mask start source.now frame.old) frame.old result frame.new }
+    ensures { Answered (frame_number plan mask start tables.now (length source.now) (length frame.old)) (frame_of plan tables.now mask start source.now frame.old) frame.old result frame.new }
 {
     let mut ends = [0usize; 9];
     // Coding is lent no area that has an entry for each slot, so none of a wrong length.

@@ -1,8 +1,8 @@
 // The slots of a frame, read one behind the other from one area.
 ghost use Rattle.std.specs.Prelude.{◌≡◌, ◌&&◌, eqb, length};
 ghost use Rattle.lists.specs.Choice.{pick};
-ghost use Rattle.frame.specs.Steps.{answerAt, stuffAt, positionAt, readAt, stateAfter};
-ghost use Rattle.frame.specs.Frames.{answersOf, stuffsOf, positionsOf, sourcesOf, readFrameNumber};
+ghost use Rattle.frame.specs.Steps.{answer_at, stuff_at, position_at, read_at, state_after};
+ghost use Rattle.frame.specs.Frames.{answers_of, stuffs_of, positions_of, sources_of, read_frame_number};
 ghost use Rattle.frame_reader.specs.Needs.{Reading, Answering};
 
 use plan::{FrameState, Plan};
@@ -18,8 +18,8 @@ fn read_place(
     source: &mut [u8],
 ) -> SlotRead
     requires { Reading state tables.now ends.now received.now source.old }
-    ensures number_value { (result.number ≡ answerAt state tables.now received.now) × (result.state ≡ stateAfter state) × (result.stuff ≡ stuffAt state tables.now received.now) × (result.position ≡ positionAt state tables.now received.now) }
-    ensures source_after { source.new ≡ readAt state tables.now received.now source.old }
+    ensures number_value { (result.number ≡ answer_at state tables.now received.now) × (result.state ≡ state_after state) × (result.stuff ≡ stuff_at state tables.now received.now) × (result.position ≡ position_at state tables.now received.now) }
+    ensures source_after { source.new ≡ read_at state tables.now received.now source.old }
 {
     let place = plan::next_place(state);
     if place.carries {
@@ -46,10 +46,10 @@ fn read_slots(
     positions: &mut [u16],
 )
     requires { Answering plan mask start tables.now ends.now source.old frame.now answers.old stuff.old positions.old }
-    ensures source_after { source.new ≡ sourcesOf plan tables.now mask start frame.now source.old }
-    ensures answers_after { answers.new ≡ answersOf plan tables.now mask start frame.now }
-    ensures stuff_after { stuff.new ≡ stuffsOf plan tables.now mask start frame.now }
-    ensures positions_after { positions.new ≡ positionsOf plan tables.now mask start frame.now }
+    ensures source_after { source.new ≡ sources_of plan tables.now mask start frame.now source.old }
+    ensures answers_after { answers.new ≡ answers_of plan tables.now mask start frame.now }
+    ensures stuff_after { stuff.new ≡ stuffs_of plan tables.now mask start frame.now }
+    ensures positions_after { positions.new ≡ positions_of plan tables.now mask start frame.now }
 {
     let opened = plan::open(plan, mask, start);
     let mut state = opened.state;
@@ -96,11 +96,11 @@ pub fn read_frame(
     stuff: &mut [u8],
     positions: &mut [u16],
 ) -> u8
-    ensures value { result ≡ readFrameNumber plan mask start tables.now (length source.old) (length frame.now) (length answers.old) (length stuff.old) (length positions.old) }
-    ensures source_after { source.new ≡ pick (eqb result 0) (sourcesOf plan tables.now mask start frame.now source.old) source.old }
-    ensures answers_after { answers.new ≡ pick (eqb result 0) (answersOf plan tables.now mask start frame.now) answers.old }
-    ensures stuff_after { stuff.new ≡ pick (eqb result 0) (stuffsOf plan tables.now mask start frame.now) stuff.old }
-    ensures positions_after { positions.new ≡ pick (eqb result 0) (positionsOf plan tables.now mask start frame.now) positions.old }
+    ensures value { result ≡ read_frame_number plan mask start tables.now (length source.old) (length frame.now) (length answers.old) (length stuff.old) (length positions.old) }
+    ensures source_after { source.new ≡ pick (eqb result 0) (sources_of plan tables.now mask start frame.now source.old) source.old }
+    ensures answers_after { answers.new ≡ pick (eqb result 0) (answers_of plan tables.now mask start frame.now) answers.old }
+    ensures stuff_after { stuff.new ≡ pick (eqb result 0) (stuffs_of plan tables.now mask start frame.now) stuff.old }
+    ensures positions_after { positions.new ≡ pick (eqb result 0) (positions_of plan tables.now mask start frame.now) positions.old }
 {
     let octets = source.len();
     let area = frame.len();

@@ -6,10 +6,10 @@ use Rattle.lists.specs.Count.{sum, table}
 use Rattle.lists.specs.CountLaws.{sum_more}
 use Rattle.parity_table.specs.Tables.{positions}
 use Rattle.ldpc.specs.Parity.{spacing, running}
-use Rattle.ldpc.specs.Stepping.{timesStepped, parityStepped}
-use Rattle.ldpc.specs.SteppedParityLaws.{parityStepped-is}
+use Rattle.ldpc.specs.Stepping.{times_stepped, parity_stepped}
+use Rattle.ldpc.specs.SteppedParityLaws.{parity_stepped_is}
 use Rattle.ldpc.specs.Columns.{across, sum_at}
-use Rattle.ldpc.specs.ColumnLaws.{place-below, across-back}
+use Rattle.ldpc.specs.ColumnLaws.{place_below, across_back}
 use Rattle.ldpc.specs.Needs.{Added, AddedBySteps}
 
 -- nothing is added yet
@@ -27,30 +27,30 @@ added_then s₀ s s' f g h a b e = record {
 }
 
 -- what is added goes by its value at each place
-pub added-as : (s₀ s : List ℕ) (f g : ℕ → ℕ) → Added s₀ s f → ((j : ℕ) → j < length s₀ → g j ≡ f j) → Added s₀ s g
-added-as s₀ s f g a e = record { same = a.same; at = λ j l. rw (e j l) (a.at j l) }
+pub added_as : (s₀ s : List ℕ) (f g : ℕ → ℕ) → Added s₀ s f → ((j : ℕ) → j < length s₀ → g j ≡ f j) → Added s₀ s g
+added_as s₀ s f g a e = record { same = a.same; at = λ j l. rw (e j l) (a.at j l) }
 
 -- in the columns, the sum of a position has added to it what the position is reached by
-pub added-at : (q : ℕ) (s₀ s : List ℕ) (f : ℕ → ℕ) → length s₀ ≡ 374 * q → Added s₀ s (λ n. f (across q 374 n))
+pub added_at : (q : ℕ) (s₀ s : List ℕ) (f : ℕ → ℕ) → length s₀ ≡ 374 * q → Added s₀ s (λ n. f (across q 374 n))
     → (p : ℕ) → p < 374 * q → sum_at q s p % 2 ≡ (sum_at q s₀ p + f p) % 2
-added-at q s₀ s f l a p h =
-    a.at (across 374 q p) (omega (arith, place-below q p h)) ∙ ap (λ (k : ℕ). (sum_at q s₀ p + f k) % 2) (across-back q p h)
+added_at q s₀ s f l a p h =
+    a.at (across 374 q p) (omega (arith, place_below q p h)) ∙ ap (λ (k : ℕ). (sum_at q s₀ p + f k) % 2) (across_back q p h)
 
 -- the running sum, one position on
-pub carry-more : (last x : ℕ) (f : ℕ → ℕ) (j : ℕ) → last ≡ sum j f % 2 → x % 2 ≡ f j % 2 → (last + x) % 2 ≡ sum (j + 1) f % 2
-carry-more last x f j e h = omega (arith, sum_more j f)
+pub carry_more : (last x : ℕ) (f : ℕ → ℕ) (j : ℕ) → last ≡ sum j f % 2 → x % 2 ≡ f j % 2 → (last + x) % 2 ≡ sum (j + 1) f % 2
+carry_more last x f j e h = omega (arith, sum_more j f)
 
 -- the coder and the check: cleared, added to in columns by steps, summed up in the order of the positions
 module _ (rows : ℕ) (t u columns₀ columns : List ℕ) (e : columns₀ ≡ replicate (positions rows) 0)
     (a : AddedBySteps rows t u columns₀ columns) where
   -- the sum of a position
-  pub sum-at : (p : ℕ) → p < positions rows → sum_at (spacing rows) columns p % 2 ≡ timesStepped (spacing rows) t u rows p % 2
-  sum-at p h =
+  pub sum_at_law : (p : ℕ) → p < positions rows → sum_at (spacing rows) columns p % 2 ≡ times_stepped (spacing rows) t u rows p % 2
+  sum_at_law p h =
       let l : length columns₀ ≡ positions rows = rw e (length-replicate {A = ℕ} (positions rows) 0) in
-      let z : sum_at (spacing rows) columns₀ p ≡ 0 = rw e (get_or-replicate {A = ℕ} (positions rows) _ 0 0 (place-below (spacing rows) p h)) in
-      added-at (spacing rows) columns₀ columns (timesStepped (spacing rows) t u rows) l a p h ∙ rw (z, zero-add)
+      let z : sum_at (spacing rows) columns₀ p ≡ 0 = rw e (get_or-replicate {A = ℕ} (positions rows) _ 0 0 (place_below (spacing rows) p h)) in
+      added_at (spacing rows) columns₀ columns (times_stepped (spacing rows) t u rows) l a p h ∙ rw (z, zero-add)
 
   -- their running sums are the parity
-  pub coded : (sums : List ℕ) → sums ≡ table (positions rows) (running (sum_at (spacing rows) columns)) → sums ≡ parityStepped rows t u
+  pub coded : (sums : List ℕ) → sums ≡ table (positions rows) (running (sum_at (spacing rows) columns)) → sums ≡ parity_stepped rows t u
   coded sums r =
-      r ∙ parityStepped-is rows t u (sum_at (spacing rows) columns) sum-at
+      r ∙ parity_stepped_is rows t u (sum_at (spacing rows) columns) sum_at_law

@@ -2,7 +2,7 @@
 use Rattle.std.specs.Prelude.{◌≡◌, List, ℕ, zero, suc, ◌+◌, ◌*◌, ◌-◌, ◌%◌, ◌<◌, ◌≤◌, eqb, get_or}
 use Rattle.lists.specs.Choice.{pick}
 use Rattle.lists.specs.Count.{sum, table}
-use Rattle.parity_table.specs.Tables.{positions, rowStart}
+use Rattle.parity_table.specs.Tables.{positions, row_start}
 
 -- q of document 01: "q = 120 − R"
 abbrev pub spacing : ℕ → ℕ
@@ -14,20 +14,20 @@ position rows a m = (a + m * spacing rows) % positions rows
 
 -- how often bit m of a row, of value b, reaches position j through the n addresses of t from `from` on ("A bit reaches a
 -- position once for each address of its row that adds it there")
-unfoldable pub bitTimes : ℕ → List ℕ → ℕ → ℕ → ℕ → ℕ → ℕ → ℕ
-bitTimes rows t from n m b j = sum n (λ i. pick (eqb (position rows (get_or t (from + i) 0) m) j) b 0)
+unfoldable pub bit_times : ℕ → List ℕ → ℕ → ℕ → ℕ → ℕ → ℕ → ℕ
+bit_times rows t from n m b j = sum n (λ i. pick (eqb (position rows (get_or t (from + i) 0) m) j) b 0)
 
 -- how often the n bits of u from base on, one row's, reach position j through the c addresses of t from `from` on
-unfoldable pub rowTimes : ℕ → List ℕ → List ℕ → ℕ → ℕ → ℕ → ℕ → ℕ → ℕ
-rowTimes rows t u from c base n j = sum n (λ m. bitTimes rows t from c m (get_or u (base + m) 0) j)
+unfoldable pub row_times : ℕ → List ℕ → List ℕ → ℕ → ℕ → ℕ → ℕ → ℕ → ℕ
+row_times rows t u from c base n j = sum n (λ m. bit_times rows t from c m (get_or u (base + m) 0) j)
 
 -- how often the bits of the first n rows reach position j ("Bit 374 × r + m .. for each address of row r")
-unfoldable pub timesTo : ℕ → List ℕ → List ℕ → ℕ → ℕ → ℕ
-timesTo rows t u n j = sum n (λ r. rowTimes rows t u (rowStart t r + 1) (get_or t (rowStart t r) 0) (374 * r) 374 j)
+unfoldable pub times_to : ℕ → List ℕ → List ℕ → ℕ → ℕ → ℕ
+times_to rows t u n j = sum n (λ r. row_times rows t u (row_start t r + 1) (get_or t (row_start t r) 0) (374 * r) 374 j)
 
 -- how often the set bits of u reach position j
 abbrev pub times : ℕ → List ℕ → List ℕ → ℕ → ℕ
-times rows t u j = timesTo rows t u rows j
+times rows t u j = times_to rows t u rows j
 
 -- "Then each parity bit from the second on adds the one before it"
 unfoldable pub running : (ℕ → ℕ) → ℕ → ℕ
@@ -35,14 +35,14 @@ running f zero = f zero % 2
 running f (suc j) = (f (suc j) + running f j) % 2
 
 -- the parity bits of u
-unfoldable pub parityOf : ℕ → List ℕ → List ℕ → List ℕ
-parityOf rows t u = table (positions rows) (running (times rows t u))
+unfoldable pub parity_of : ℕ → List ℕ → List ℕ → List ℕ
+parity_of rows t u = table (positions rows) (running (times rows t u))
 
 -- document 01, "Worked by hand": a run in which only bit m is set, one of the first row, and a table whose first row has
 -- one address, a
 pub record Only (rows : ℕ) (t u : List ℕ) (m a : ℕ) : Type 0 where
   pub some : 1 ≤ rows
-  pub first-row : m < 374
+  pub first_row : m < 374
   pub set : get_or u m 0 ≡ 1
   pub clear : (k : ℕ) → (k ≡ m → ⊥) → get_or u k 0 ≡ 0
   pub one : get_or t 0 0 ≡ 1

@@ -7,43 +7,43 @@ use Rattle.std.proofs.Math.Nat.{mul-add-mod_self_left, div-add-mod}
 use Rattle.std.proofs.Math.Decide.{dec_lt}
 use Rattle.std.proofs.lemmas.Bool.{lt-leb}
 use Rattle.lists.specs.Choice.{pick}
-use Rattle.ldpc.specs.Stepping.{stepOn, stepped}
+use Rattle.ldpc.specs.Stepping.{step_on, stepped}
 
 -- a step, by whether M is reached
-pub stepOn-reached : (q m p : ℕ) → m ≤ p + q → stepOn q m p ≡ p + q - m
-stepOn-reached q m p h = ap (λ (t : Bool). pick t (p + q - m) (p + q)) (le-leb m (p + q) h)
+pub step_on_reached : (q m p : ℕ) → m ≤ p + q → step_on q m p ≡ p + q - m
+step_on_reached q m p h = ap (λ (t : Bool). pick t (p + q - m) (p + q)) (le-leb m (p + q) h)
 
-pub stepOn-less : (q m p : ℕ) → p + q < m → stepOn q m p ≡ p + q
-stepOn-less q m p h = ap (λ (t : Bool). pick t (p + q - m) (p + q)) (lt-leb m (p + q) h)
+pub step_on_less : (q m p : ℕ) → p + q < m → step_on q m p ≡ p + q
+step_on_less q m p h = ap (λ (t : Bool). pick t (p + q - m) (p + q)) (lt-leb m (p + q) h)
 
 -- a step by no more than m is a remainder
-stepOn-mod : (q m p : ℕ) → q ≤ m → p < m → stepOn q m p ≡ (p + q) % m
-stepOn-mod q m p l h = go (dec_lt (p + q) m)
+step_on_mod : (q m p : ℕ) → q ≤ m → p < m → step_on q m p ≡ (p + q) % m
+step_on_mod q m p l h = go (dec_lt (p + q) m)
   where
-    go : Dec (p + q < m) → stepOn q m p ≡ (p + q) % m
-    go (yes k) = stepOn-less q m p k ∙ sym (mod-eq_of_lt k)
+    go : Dec (p + q < m) → step_on q m p ≡ (p + q) % m
+    go (yes k) = step_on_less q m p k ∙ sym (mod-eq_of_lt k)
     go (no k) =
         let e : p + q ≡ m * 1 + (p + q - m) = omega arith in
         let b : p + q - m < m = omega arith in
-        stepOn-reached q m p (omega arith)
+        step_on_reached q m p (omega arith)
         ∙ sym (ap (λ (n : ℕ). n % m) e ∙ mul-add-mod_self_left m 1 (p + q - m) ∙ mod-eq_of_lt b)
 
 -- "(address + m × q) mod M": what n steps from a position come to
-pub stepped-mod : (q m a : ℕ) → q ≤ m → a < m → (n : ℕ) → stepped q m a n ≡ (a + n * q) % m
+pub stepped_mod : (q m a : ℕ) → q ≤ m → a < m → (n : ℕ) → stepped q m a n ≡ (a + n * q) % m
 unfolding stepped
-stepped-mod q m a l h zero = let e : a + zero * q ≡ a = omega arith in rw e (sym (mod-eq_of_lt h))
-stepped-mod q m a l h (suc n) =
+stepped_mod q m a l h zero = let e : a + zero * q ≡ a = omega arith in rw e (sym (mod-eq_of_lt h))
+stepped_mod q m a l h (suc n) =
     let z : 0 < m = omega arith in
     let x : ℕ = a + n * q in
     let e : a + suc n * q ≡ m * (x / m) + (x % m + q) = omega (arith, div-add-mod x m) in
-    ap (stepOn q m) (stepped-mod q m a l h n)
-    ∙ stepOn-mod q m (x % m) l (mod-lt x z)
+    ap (step_on q m) (stepped_mod q m a l h n)
+    ∙ step_on_mod q m (x % m) l (mod-lt x z)
     ∙ sym (ap (λ (k : ℕ). k % m) e ∙ mul-add-mod_self_left m (x / m) (x % m + q))
 
 -- steps that come to m at the most are one step: m is subtracted once
-pub stepped-once : (q m a n : ℕ) → q ≤ m → a < m → q * n ≤ m → stepped q m a n ≡ stepOn (q * n) m a
-stepped-once q m a n l h k =
-    stepped-mod q m a l h n ∙ ap (λ (x : ℕ). (a + x) % m) (mul_comm n q) ∙ sym (stepOn-mod (q * n) m a k h)
+pub stepped_once : (q m a n : ℕ) → q ≤ m → a < m → q * n ≤ m → stepped q m a n ≡ step_on (q * n) m a
+stepped_once q m a n l h k =
+    stepped_mod q m a l h n ∙ ap (λ (x : ℕ). (a + x) % m) (mul_comm n q) ∙ sym (step_on_mod (q * n) m a k h)
 
 -- where the bits of a row go through an address
 module _ (q a : ℕ) (z : 0 < q) (h : a < 374 * q) where
@@ -51,30 +51,30 @@ module _ (q a : ℕ) (z : 0 < q) (h : a < 374 * q) where
   turn_below = (div-lt_iff_lt-mul z).1 h
 
   -- a step from place j of a column: to the place behind it, and to the first after the last
-  column-step : (j : ℕ) → j < 374 → stepOn q (374 * q) (q * j + a % q) ≡ q * stepOn 1 374 j + a % q
-  column-step j l = go (dec_lt (j + 1) 374)
+  column_step : (j : ℕ) → j < 374 → step_on q (374 * q) (q * j + a % q) ≡ q * step_on 1 374 j + a % q
+  column_step j l = go (dec_lt (j + 1) 374)
     where
-      go : Dec (j + 1 < 374) → stepOn q (374 * q) (q * j + a % q) ≡ q * stepOn 1 374 j + a % q
+      go : Dec (j + 1 < 374) → step_on q (374 * q) (q * j + a % q) ≡ q * step_on 1 374 j + a % q
       go (yes k) =
           let b : j + 2 ≤ 374 = omega arith in
           let l₂ : q * j + a % q + q < 374 * q = omega (arith, mod-lt a z, mul-le-mul_left q b, mul-add q j 2) in
-          rw (stepOn-less q (374 * q) (q * j + a % q) l₂, stepOn-less 1 374 j k) (omega (arith, mul-add q j 1))
+          rw (step_on_less q (374 * q) (q * j + a % q) l₂, step_on_less 1 374 j k) (omega (arith, mul-add q j 1))
       go (no k) =
           let e : j ≡ 373 = omega arith in
-          rw (e, stepOn-reached q (374 * q) (q * 373 + a % q) (omega arith)) (omega arith)
+          rw (e, step_on_reached q (374 * q) (q * 373 + a % q) (omega arith)) (omega arith)
 
   -- the position stepped to stands as many places on in the column of the address
-  pub stepped-column : (n : ℕ) → stepped q (374 * q) a n ≡ q * stepped 1 374 (a / q) n + a % q
+  pub stepped_column : (n : ℕ) → stepped q (374 * q) a n ≡ q * stepped 1 374 (a / q) n + a % q
   unfolding stepped
-  stepped-column zero = sym (div-add-mod a q)
-  stepped-column (suc n) =
-      let b : stepped 1 374 (a / q) n < 374 = rw (stepped-mod 1 374 (a / q) (omega arith) turn_below n) (omega arith) in
-      ap (stepOn q (374 * q)) (stepped-column n) ∙ column-step (stepped 1 374 (a / q) n) b
+  stepped_column zero = sym (div-add-mod a q)
+  stepped_column (suc n) =
+      let b : stepped 1 374 (a / q) n < 374 = rw (stepped_mod 1 374 (a / q) (omega arith) turn_below n) (omega arith) in
+      ap (step_on q (374 * q)) (stepped_column n) ∙ column_step (stepped 1 374 (a / q) n) b
 
   -- M is reached behind the last place of the column, and the position is then that of its first
-  pub column-first : stepped q (374 * q) a (374 - a / q) ≡ a % q
-  column-first =
+  pub column_first : stepped q (374 * q) a (374 - a / q) ≡ a % q
+  column_first =
       let t = turn_below in
       let n : a / q + (374 - a / q) * 1 ≡ 374 = omega arith in
-      let e : stepped 1 374 (a / q) (374 - a / q) ≡ 0 = stepped-mod 1 374 (a / q) (omega arith) t (374 - a / q) ∙ ap (λ (k : ℕ). k % 374) n in
-      stepped-column (374 - a / q) ∙ ap (λ (n : ℕ). q * n + a % q) e ∙ omega arith
+      let e : stepped 1 374 (a / q) (374 - a / q) ≡ 0 = stepped_mod 1 374 (a / q) (omega arith) t (374 - a / q) ∙ ap (λ (k : ℕ). k % 374) n in
+      stepped_column (374 - a / q) ∙ ap (λ (n : ℕ). q * n + a % q) e ∙ omega arith

@@ -22,9 +22,9 @@ pub or_cases : {C : Type 0} (a b : Bool) → (a || b) ≡ true → (a ≡ true �
 or_cases true b h f g = f refl
 or_cases false b h f g = g refl h
 
-pub or-true : (a b : Bool) → b ≡ true → (a || b) ≡ true
-or-true true b e = refl
-or-true false b e = e
+pub or_true : (a b : Bool) → b ≡ true → (a || b) ≡ true
+or_true true b e = refl
+or_true false b e = e
 
 pub false_of : (b : Bool) → (b ≡ true → ⊥) → b ≡ false
 false_of true h = absurd (h refl)
@@ -44,25 +44,25 @@ pick_same true a = refl
 pick_same false a = refl
 
 -- what holds of both holds of the one that is chosen, and of the number that answers
-pub pick-each : {A : Type 0} (P : A → Type 0) (t : Bool) {a b : A} → P a → P b → P (pick t a b)
-pick-each P true p q = p
-pick-each P false p q = q
+pub pick_each : {A : Type 0} (P : A → Type 0) (t : Bool) {a b : A} → P a → P b → P (pick t a b)
+pick_each P true p q = p
+pick_each P false p q = q
 
-pub then-each : (P : ℕ → Type 0) {a b : ℕ} → P a → P b → P (and_then a b)
-then-each P {a} p q = pick-each P (eqb a 0) q p
+pub then_each : (P : ℕ → Type 0) {a b : ℕ} → P a → P b → P (and_then a b)
+then_each P {a} p q = pick_each P (eqb a 0) q p
 
 -- where the answer is 0, a test whose failure is refused held, whatever the refusal's number
-pub not-refused : (t : Bool) (n : ℕ) → 0 < n → pick t 0 n ≡ 0 → t ≡ true
-not-refused true n l h = refl
-not-refused false n l h = absurd (omega arith)
+pub not_refused : (t : Bool) (n : ℕ) → 0 < n → pick t 0 n ≡ 0 → t ≡ true
+not_refused true n l h = refl
+not_refused false n l h = absurd (omega arith)
 
 -- and one whose holding is refused failed
-pub no-cause : (t : Bool) (n : ℕ) → 0 < n → pick t n 0 ≡ 0 → t ≡ false
-no-cause true n l h = absurd (omega arith)
-no-cause false n l h = refl
+pub no_cause : (t : Bool) (n : ℕ) → 0 < n → pick t n 0 ≡ 0 → t ≡ false
+no_cause true n l h = absurd (omega arith)
+no_cause false n l h = refl
 
-pub then-zero : (a b : ℕ) → and_then a b ≡ 0 → (a ≡ 0) × (b ≡ 0)
-then-zero a b h = go (ℕ_discrete a 0)
+pub then_zero : (a b : ℕ) → and_then a b ≡ 0 → (a ≡ 0) × (b ≡ 0)
+then_zero a b h = go (ℕ_discrete a 0)
   where
     go : Dec (a ≡ 0) → (a ≡ 0) × (b ≡ 0)
     go (yes e) = (e, rw (eq-eqb a 0 e) at h)
@@ -73,12 +73,12 @@ pub then_next : (a b : ℕ) → a ≡ 0 → and_then a b ≡ b
 then_next a b e = rw (eq-eqb a 0 e)
 
 -- where the first number refuses, it is the answer
-pub then-first : (a b : ℕ) → (a ≡ 0 → ⊥) → and_then a b ≡ a
-then-first a b n = rw (ne_eqb a 0 n)
+pub then_first : (a b : ℕ) → (a ≡ 0 → ⊥) → and_then a b ≡ a
+then_first a b n = rw (ne_eqb a 0 n)
 
 -- a refusal goes through what is tested behind it
 pub onward : (a n b : ℕ) → a ≡ n → (n ≡ 0 → ⊥) → and_then a b ≡ n
-onward a n b e h = then-first a b (λ z. h (sym e ∙ z)) ∙ e
+onward a n b e h = then_first a b (λ z. h (sym e ∙ z)) ∙ e
 
-pub then-both : (a b : ℕ) → a ≡ 0 → b ≡ 0 → and_then a b ≡ 0
-then-both a b e f = then_next a b e ∙ f
+pub then_both : (a b : ℕ) → a ≡ 0 → b ≡ 0 → and_then a b ≡ 0
+then_both a b e f = then_next a b e ∙ f

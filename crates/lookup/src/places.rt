@@ -1,13 +1,13 @@
 // Where a slot lies.
 ghost use Rattle.std.specs.Prelude.{◌≡◌};
-ghost use Rattle.lookup.specs.Lookups.{noPlace, placeNumber, placed};
+ghost use Rattle.lookup.specs.Lookups.{no_place, place_number, placed};
 
 use crate::Placed;
 use plan::{Place, Plan};
 
 // The place of a refusal.
 fn no_place() -> Place
-    ensures { result ≡ noPlace }
+    ensures { result ≡ no_place }
 {
     Place {
         group: 0,
@@ -18,7 +18,7 @@ fn no_place() -> Place
 }
 
 fn place_number(plan: Plan, slot: u32) -> u8
-    ensures { result ≡ placeNumber plan slot }
+    ensures { result ≡ place_number plan slot }
 {
     if slot == 0 {
         return refusal::PLAN;

@@ -1,12 +1,12 @@
 // Header and data octets of a whole frame.
 ghost use Rattle.std.specs.Prelude.{◌≡◌};
-ghost use Rattle.lookup.specs.Lookups.{sourceOctets};
+ghost use Rattle.lookup.specs.Lookups.{source_octets};
 
 use plan::Plan;
 
 // Those of all data slots; 0 where the plan is refused.
 pub fn source_octets(plan: Plan) -> usize
-    ensures { result ≡ sourceOctets plan }
+    ensures { result ≡ source_octets plan }
 {
     if plan::plan_number(plan) != 0 {
         return 0;

@@ -1,15 +1,15 @@
 // The published parity tables of a plan's groups, end to end.
 ghost use Rattle.std.specs.Prelude.{◌≡◌, ◌≤◌, length};
 ghost use Rattle.refusal.specs.Answers.{Answered};
-ghost use Rattle.plan.specs.Plans.{planNumber};
+ghost use Rattle.plan.specs.Plans.{plan_number};
 ghost use Rattle.lookup.specs.Needs.{Tables};
-ghost use Rattle.lookup.specs.Lookups.{tables_of, tablesEntries, tablesNumber};
+ghost use Rattle.lookup.specs.Lookups.{tables_of, tables_entries, tables_number};
 
 use plan::Plan;
 
 // How many numbers the tables of an accepted plan have.
 fn entries(plan: Plan) -> usize
-    requires { planNumber plan ≡ 0 }
+    requires { plan_number plan ≡ 0 }
     ensures { result ≡ length (tables_of plan) }
 {
     let count = lists::index(plan.count);
@@ -24,7 +24,7 @@ fn entries(plan: Plan) -> usize
 
 // The same of any plan; 0 where it is refused.
 pub fn tables_entries(plan: Plan) -> usize
-    ensures value { result ≡ tablesEntries plan }
+    ensures value { result ≡ tables_entries plan }
     ensures upper_bound { result ≤ 4080 }
 {
     if plan::plan_number(plan) != 0 {
@@ -52,7 +52,7 @@ fn put_tables(plan: Plan, tables: &mut [u16])
 
 // Copies the tables of a plan into an area of exactly their length; a refusal leaves the area as it was.
 pub fn copy_tables(plan: Plan, tables: &mut [u16]) -> u8
-    ensures { Answered (tablesNumber plan tables.old) (tables_of plan) tables.old result tables.new }
+    ensures { Answered (tables_number plan tables.old) (tables_of plan) tables.old result tables.new }
 {
     let number = plan::plan_number(plan);
     if number != 0 {

@@ -5,6 +5,6 @@ use Rattle.lists.specs.ChoiceLaws.{and_left}
 use Rattle.numerals.specs.Words.{hexadecimal}
 
 -- behind 0x there is something
-pub hexadecimal-long : (word : List ℕ) → hexadecimal word ≡ true → 3 ≤ length word
+pub hexadecimal_long : (word : List ℕ) → hexadecimal word ≡ true → 3 ≤ length word
 unfolding hexadecimal
-hexadecimal-long word h = leb-true 3 (length word) (and_left (leb 3 (length word)) _ h)
+hexadecimal_long word h = leb-true 3 (length word) (and_left (leb 3 (length word)) _ h)

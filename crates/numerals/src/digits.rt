@@ -1,7 +1,7 @@
 // Digits, and the number that a run of them makes.
 ghost use Rattle.std.specs.Prelude.{◌&&◌, ◌≡◌, leb};
 ghost use Rattle.numerals.specs.Needs.{Digits};
-ghost use Rattle.numerals.specs.Numerals.{digitOf, value_of};
+ghost use Rattle.numerals.specs.Numerals.{digit_of, value_of};
 
 fn within(x: u8, low: u8, high: u8) -> bool
     ensures { result ≡ (leb low x && leb x high) }
@@ -14,7 +14,7 @@ fn within(x: u8, low: u8, high: u8) -> bool
 
 // The value of a digit, or 16 where the octet is none.
 pub fn digit(octet: u8) -> u64
-    ensures { result ≡ digitOf octet }
+    ensures { result ≡ digit_of octet }
 {
     if within(octet, b'0', b'9') {
         return (octet - 48) as u64;

@@ -1,7 +1,7 @@
 // A number as text: decimal digits, or hexadecimal ones behind 0x.
 ghost use Rattle.std.specs.Prelude.{◌≡◌, length};
 ghost use Rattle.lists.specs.Count.{every};
-ghost use Rattle.numerals.specs.Words.{digitAt, nothing, said, numberIn, hexadecimal, numberText};
+ghost use Rattle.numerals.specs.Words.{digit_at, nothing, said, number_in, hexadecimal, number_text};
 ghost use Rattle.numerals.specs.Needs.{Base};
 
 use crate::Said;
@@ -9,7 +9,7 @@ use crate::digits::{digit, value};
 
 // Whether all octets are digits of the base.
 fn all_digits(base: u64, text: &[u8]) -> bool
-    ensures { result ≡ every (length text.now) (digitAt base text.now) }
+    ensures { result ≡ every (length text.now) (digit_at base text.now) }
 {
     let mut i: usize = 0;
     while i < text.len() {
@@ -46,7 +46,7 @@ fn fitted(made: u64) -> Said
 // The number of 1 to most digits of a base, where it has at most 32 bits.
 fn number_in(base: u64, most: usize, text: &[u8]) -> Said
     requires { Base base most }
-    ensures { result ≡ numberIn base most text.now }
+    ensures { result ≡ number_in base most text.now }
 {
     if text.len() < 1 {
         return none();
@@ -75,7 +75,7 @@ fn is_hexadecimal(word: &[u8]) -> bool
 
 // The number that a word says: 1 to 10 decimal digits, or 0x and 1 to 8 hexadecimal ones, at most 32 bits.
 pub fn number(word: &[u8]) -> Said
-    ensures { result ≡ numberText word.now }
+    ensures { result ≡ number_text word.now }
 {
     if is_hexadecimal(word) {
         let end = word.len();

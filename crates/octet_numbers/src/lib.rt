@@ -1,6 +1,6 @@
 // Numbers in octets, the highest octet first, and what is asked of runs of octets.
 ghost use Rattle.std.specs.Prelude.{◌≡◌, ◌≤◌, length};
-ghost use Rattle.octet_numbers.specs.Numbers.{bigEndian, number_of, sumOf, allZero};
+ghost use Rattle.octet_numbers.specs.Numbers.{big_endian, number_of, sum_of, all_zero};
 ghost use Rattle.octet_numbers.specs.Needs.{Digits};
 
 // The number of octets, by way of their digits.
@@ -25,7 +25,7 @@ pub fn number_of(octets: &[u8]) -> u32
 // Puts a number into octets, by way of its digits.
 fn spread(x: u64, digits: &mut [u8], octets: &mut [u8])
     requires { Digits octets.old digits.old }
-    ensures { octets.new ≡ bigEndian (length octets.old) x }
+    ensures { octets.new ≡ big_endian (length octets.old) x }
 {
     bits::spread(x, digits);
     bits::collect(digits, octets);
@@ -34,7 +34,7 @@ fn spread(x: u64, digits: &mut [u8], octets: &mut [u8])
 // Puts a number into at most four octets.
 pub fn put_number(x: u32, octets: &mut [u8])
     requires { length octets.old ≤ 4 }
-    ensures { octets.new ≡ bigEndian (length octets.old) x }
+    ensures { octets.new ≡ big_endian (length octets.old) x }
 {
     let mut digits = [0u8; 32];
     let end = 8 * octets.len();
@@ -44,7 +44,7 @@ pub fn put_number(x: u32, octets: &mut [u8])
 // The sum of at most 512 octets modulo 65,536.
 pub fn sum_of(octets: &[u8]) -> u32
     requires { length octets.now ≤ 512 }
-    ensures { result ≡ sumOf octets.now }
+    ensures { result ≡ sum_of octets.now }
 {
     let mut made: u64 = 0;
     let mut k: usize = 0;
@@ -57,7 +57,7 @@ pub fn sum_of(octets: &[u8]) -> u32
 
 // Whether all octets are zeros.
 pub fn all_zero(octets: &[u8]) -> bool
-    ensures { result ≡ allZero octets.now }
+    ensures { result ≡ all_zero octets.now }
 {
     let mut k: usize = 0;
     while k < octets.len() {

@@ -1,14 +1,14 @@
 // The two calls: packets of one slot into its data octets, and back.
 ghost use Rattle.std.specs.Prelude.{◌≡◌, length};
-ghost use Rattle.plan.specs.Rates.{packetsOf};
+ghost use Rattle.plan.specs.Rates.{packets_of};
 ghost use Rattle.refusal.specs.Answers.{Answered};
-ghost use Rattle.packets.specs.Packets.{packed, unpacked, sizeNumber, packNumber, unpackNumber};
+ghost use Rattle.packets.specs.Packets.{packed, unpacked, size_number, pack_number, unpack_number};
 
 use crate::carry::{leave_out, put_back, syncs_ok};
 
 // The refusal of an unknown rate or a wrong length, or 0.
 fn size_number(rate: u32, packets: usize, octets: usize) -> u8
-    ensures { result ≡ sizeNumber rate packets octets }
+    ensures { result ≡ size_number rate packets octets }
 {
     if !plan::known(rate, plan::RATES) {
         return refusal::PLAN;
@@ -24,7 +24,7 @@ fn size_number(rate: u32, packets: usize, octets: usize) -> u8
 
 // The refusal of packing, or 0, with the length of the area for the data octets.
 fn pack_number(rate: u32, packets: &[u8], room: usize) -> u8
-    ensures { result ≡ packNumber rate packets.now room }
+    ensures { result ≡ pack_number rate packets.now room }
 {
     let number = size_number(rate, packets.len(), room);
     if number != 0 {
@@ -38,7 +38,7 @@ fn pack_number(rate: u32, packets: &[u8], room: usize) -> u8
 
 // Packs one slot's packets into data octets; a refusal leaves the octets as they were.
 pub fn pack(rate: u32, packets: &[u8], octets: &mut [u8]) -> u8
-    ensures { Answered (packNumber rate packets.now (length octets.old)) (packed (packetsOf rate) packets.now) octets.old result octets.new }
+    ensures { Answered (pack_number rate packets.now (length octets.old)) (packed (packets_of rate) packets.now) octets.old result octets.new }
 {
     let number = pack_number(rate, packets, octets.len());
     if number != 0 {
@@ -50,7 +50,7 @@ pub fn pack(rate: u32, packets: &[u8], octets: &mut [u8]) -> u8
 
 // Unpacks one slot's data octets into packets; a refusal leaves the packets as they were.
 pub fn unpack(rate: u32, octets: &[u8], packets: &mut [u8]) -> u8
-    ensures { Answered (unpackNumber rate octets.now (length packets.old)) (unpacked (packetsOf rate) octets.now) packets.old result packets.new }
+    ensures { Answered (unpack_number rate octets.now (length packets.old)) (unpacked (packets_of rate) octets.now) packets.old result packets.new }
 {
     let number = size_number(rate, packets.len(), octets.len());
     if number != 0 {

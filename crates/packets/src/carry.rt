@@ -2,7 +2,7 @@
 ghost use Rattle.std.specs.Prelude.{◌≡◌, ◌*◌, length};
 ghost use Rattle.lists.specs.Count.{every};
 ghost use Rattle.packets.specs.Needs.{OfPackets};
-ghost use Rattle.packets.specs.Packets.{packed, unpacked, beginsSync};
+ghost use Rattle.packets.specs.Packets.{packed, unpacked, begins_sync};
 
 // The first octet of a TS packet.
 const SYNC_OCTET: u8 = 0x47;
@@ -10,7 +10,7 @@ const SYNC_OCTET: u8 = 0x47;
 // Whether each packet begins with the sync octet.
 pub fn syncs_ok(count: usize, packets: &[u8]) -> bool
     requires { length packets.now ≡ 188 * count }
-    ensures { result ≡ every count (beginsSync packets.now) }
+    ensures { result ≡ every count (begins_sync packets.now) }
 {
     let mut i: usize = 0;
     let mut at: usize = 0;

@@ -2,14 +2,14 @@
 ghost use Rattle.std.specs.Prelude.{◌≡◌, ◌<◌, replicate};
 ghost use Rattle.parity_table.specs.Tables.{positions};
 ghost use Rattle.ldpc.specs.Needs.{AddedBySteps};
-ghost use Rattle.parity_check.specs.Check.{lowestWrong, nextPlace};
+ghost use Rattle.parity_check.specs.Check.{lowest_wrong, next_place};
 ghost use Rattle.parity_check.specs.Needs.{Received};
 
 // The place in the columns of the position behind the one that stands at a place: in the column behind it, and behind the
 // last column, which begins at edge, in the first, one place on.
 fn next_place(place: usize, edge: usize) -> usize
     requires { place < 44880 }
-    ensures { result ≡ nextPlace edge place }
+    ensures { result ≡ next_place edge place }
 {
     if edge <= place {
         return place - edge + 1;
@@ -28,7 +28,7 @@ pub fn lowest_wrong(
     sums: &mut [u8],
 ) -> usize
     requires { Received rows table.now bits.now received.now sums.old }
-    ensures value { result ≡ lowestWrong rows table.now bits.now received.now }
+    ensures value { result ≡ lowest_wrong rows table.now bits.now received.now }
     ensures added_by_steps { AddedBySteps rows table.now bits.now (replicate (positions rows) 0) sums.new }
 {
     bits::fill(sums, 0);

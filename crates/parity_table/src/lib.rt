@@ -1,13 +1,13 @@
 // The form of a parity table that is lent: for each row a count and as many addresses.
 // With R rows there are M = 374 * (120 - R) parity positions, and the addresses are below M.
 ghost use Rattle.std.specs.Prelude.{◌≡◌, ◌+◌, ◌<◌, length};
-ghost use Rattle.parity_table.specs.Tables.{addressOk, row_ok, tableOk, tableLength};
+ghost use Rattle.parity_table.specs.Tables.{address_ok, row_ok, table_ok, table_length};
 ghost use Rattle.parity_table.specs.Needs.{Rows};
 
 // Whether the address at from + i is below m and differs from the i before it.
 fn address_ok(m: usize, table: &[u16], from: usize, i: usize) -> bool
     requires { from + i < length table.now }
-    ensures { result ≡ addressOk m table.now from i }
+    ensures { result ≡ address_ok m table.now from i }
 {
     let address = table[from + i];
     if m <= lists::index(address) {
@@ -54,7 +54,7 @@ fn row_ok(m: usize, table: &[u16], s: usize) -> bool
 // The length of the accepted table at the head of a list, or 0 where none stands there.
 pub fn table_length(rows: usize, list: &[u16]) -> usize
     requires { Rows rows }
-    ensures { result ≡ tableLength rows list.now }
+    ensures { result ≡ table_length rows list.now }
 {
     let m = 374 * (120 - rows);
     let mut s: usize = 0;
@@ -72,7 +72,7 @@ pub fn table_length(rows: usize, list: &[u16]) -> usize
 // Whether the list is an accepted table and nothing more.
 pub fn table_ok(rows: usize, table: &[u16]) -> bool
     requires { Rows rows }
-    ensures { result ≡ tableOk rows table.now }
+    ensures { result ≡ table_ok rows table.now }
 {
     let length = table_length(rows, table);
     if length == 0 {

@@ -1,13 +1,13 @@
 // The rules of a plan, each tested over the whole of it: number of groups, values, order, total.
 ghost use Rattle.std.specs.Prelude.{◌≡◌, ◌+◌, ◌≤◌, ◌<◌};
-ghost use Rattle.plan.specs.Plans.{slotsBefore, valuesOk, fallsAfter, allValuesOk, allFall, ruleNumber, planNumber, dataSlotsOf};
+ghost use Rattle.plan.specs.Plans.{slots_before, values_ok, falls_after, all_values_ok, all_fall, rule_number, plan_number, data_slots_of};
 
 use crate::Plan;
 use crate::rates::{MODULATIONS, RATES, known};
 
 fn values_ok(plan: Plan, g: usize) -> bool
     requires { g < 8 }
-    ensures { result ≡ valuesOk plan g }
+    ensures { result ≡ values_ok plan g }
 {
     let slots = plan.slots[g];
     if known(plan.modulation[g] as u32, MODULATIONS) {
@@ -22,7 +22,7 @@ fn values_ok(plan: Plan, g: usize) -> bool
 
 fn all_values_ok(plan: Plan) -> bool
     requires { plan.count ≤ 8 }
-    ensures { result ≡ allValuesOk plan }
+    ensures { result ≡ all_values_ok plan }
 {
     let count = lists::index(plan.count);
     let mut g: usize = 0;
@@ -39,7 +39,7 @@ fn all_values_ok(plan: Plan) -> bool
 // Whether group g + 1 falls below group g.
 fn falls_after(plan: Plan, g: usize) -> bool
     requires { g + 1 < 8 }
-    ensures { result ≡ fallsAfter plan g }
+    ensures { result ≡ falls_after plan g }
 {
     let next = g + 1;
     let modulation = plan.modulation[g];
@@ -56,7 +56,7 @@ fn falls_after(plan: Plan, g: usize) -> bool
 
 fn all_fall(plan: Plan) -> bool
     requires { plan.count ≤ 8 }
-    ensures { result ≡ allFall plan }
+    ensures { result ≡ all_fall plan }
 {
     let count = lists::index(plan.count);
     let mut g: usize = 0;
@@ -73,7 +73,7 @@ fn all_fall(plan: Plan) -> bool
 // The slots of group g that carry data.
 pub fn data_slots(plan: Plan, g: usize) -> usize
     requires { g < 8 }
-    ensures { result ≡ dataSlotsOf plan g }
+    ensures { result ≡ data_slots_of plan g }
 {
     lists::index(plan.slots[g]) * lists::index(plan.modulation[g]) / 5
 }
@@ -81,7 +81,7 @@ pub fn data_slots(plan: Plan, g: usize) -> usize
 // The slots of all groups.
 fn total(plan: Plan) -> usize
     requires { plan.count ≤ 8 }
-    ensures { result ≡ slotsBefore plan plan.count }
+    ensures { result ≡ slots_before plan plan.count }
 {
     let count = lists::index(plan.count);
     let mut g: usize = 0;
@@ -95,7 +95,7 @@ fn total(plan: Plan) -> usize
 
 // The number of the first of these rules that does not hold.
 fn rule_number(values: bool, order: bool, whole: bool) -> u8
-    ensures { result ≡ ruleNumber values order whole }
+    ensures { result ≡ rule_number values order whole }
 {
     if values {
         if order {
@@ -111,7 +111,7 @@ fn rule_number(values: bool, order: bool, whole: bool) -> u8
 
 // The plan's number: 0, or the refusal of the first rule that it breaks.
 pub fn plan_number(plan: Plan) -> u8
-    ensures { result ≡ planNumber plan }
+    ensures { result ≡ plan_number plan }
 {
     if known(plan.count as u32, 8) {
         let values = all_values_ok(plan);

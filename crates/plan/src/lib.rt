@@ -1,6 +1,6 @@
 // Rates and modulations, the slot plan, the place of a slot, and the frame state: opening a frame, and passing a dummy.
 ghost use Rattle.std.specs.Prelude.{◌≡◌};
-ghost use Rattle.plan.specs.Records.{ofColumns, noPlan, stateAt, planIn};
+ghost use Rattle.plan.specs.Records.{of_columns, no_plan, state_at, plan_in};
 
 mod groups;
 mod places;
@@ -78,7 +78,7 @@ pub struct Answer {
 
 // A plan of count groups, from its columns.
 pub fn of_columns(count: u16, modulation: [u16; 8], rate: [u16; 8], slots: [u16; 8]) -> Plan
-    ensures { result ≡ ofColumns count modulation rate slots }
+    ensures { result ≡ of_columns count modulation rate slots }
 {
     Plan {
         count,
@@ -90,7 +90,7 @@ pub fn of_columns(count: u16, modulation: [u16; 8], rate: [u16; 8], slots: [u16;
 
 // The plan of no groups.
 pub fn no_plan() -> Plan
-    ensures { result ≡ noPlan }
+    ensures { result ≡ no_plan }
 {
     let none = [0u16; 8];
     of_columns(0, none, none, none)
@@ -98,7 +98,7 @@ pub fn no_plan() -> Plan
 
 // The state of a plan and its settings at a slot, with a register.
 pub fn state_at(plan: Plan, mask: u32, start: u32, slot: u16, register: u32) -> FrameState
-    ensures { result ≡ stateAt plan mask start slot register }
+    ensures { result ≡ state_at plan mask start slot register }
 {
     let modulation = plan.modulation;
     let rate = plan.rate;
@@ -117,7 +117,7 @@ pub fn state_at(plan: Plan, mask: u32, start: u32, slot: u16, register: u32) -> 
 
 // The plan that a state holds.
 pub fn plan_in(state: FrameState) -> Plan
-    ensures { result ≡ planIn state }
+    ensures { result ≡ plan_in state }
 {
     let modulation = state.modulation;
     let rate = state.rate;

@@ -1,14 +1,14 @@
 // The place of a slot.
 ghost use Rattle.std.specs.Prelude.{◌≡◌};
 ghost use Rattle.plan.specs.Needs.{SlotOf};
-ghost use Rattle.plan.specs.Places.{placeOf};
+ghost use Rattle.plan.specs.Places.{place_of};
 
 use crate::groups::data_slots;
 use crate::{Place, Plan};
 
 pub fn place_of(plan: Plan, slot: usize) -> Place
     requires { SlotOf plan slot }
-    ensures { result ≡ placeOf plan slot }
+    ensures { result ≡ place_of plan slot }
 {
     let mut g: usize = 0;
     let mut passed: usize = 0;

@@ -1,6 +1,6 @@
 // Rates and modulations by their numbers, and what a rate says of its slots: 0 rows for a number that is no rate's.
 ghost use Rattle.std.specs.Prelude.{◌&&◌, ◌≡◌, leb};
-ghost use Rattle.plan.specs.Rates.{rows_of, dataOctetsOf, packetsOf};
+ghost use Rattle.plan.specs.Rates.{rows_of, data_octets_of, packets_of};
 
 // How many rates and modulations there are; they are numbered from 1.
 pub const RATES: u32 = 11;
@@ -31,7 +31,7 @@ pub fn rows(rate: u32) -> usize
 
 // The data octets of a slot.
 pub fn data_octets(rate: u32) -> usize
-    ensures { result ≡ dataOctetsOf rate }
+    ensures { result ≡ data_octets_of rate }
 {
     let count = rows(rate);
     if count == 0 {
@@ -42,7 +42,7 @@ pub fn data_octets(rate: u32) -> usize
 
 // The packets of a slot.
 pub fn packets(rate: u32) -> usize
-    ensures { result ≡ packetsOf rate }
+    ensures { result ≡ packets_of rate }
 {
     data_octets(rate) / 187
 }

@@ -1,15 +1,15 @@
 // The frame state: opening a frame, what every slot call tests, and passing a dummy.
 ghost use Rattle.std.specs.Prelude.{◌≡◌, ◌≤◌};
-ghost use Rattle.plan.specs.Places.{placeOf};
-ghost use Rattle.plan.specs.Records.{planIn};
-ghost use Rattle.plan.specs.States.{movedOn, openNumber, opened, soundNumber, stateNumber, passNumber, passed};
+ghost use Rattle.plan.specs.Places.{place_of};
+ghost use Rattle.plan.specs.Records.{plan_in};
+ghost use Rattle.plan.specs.States.{moved_on, open_number, opened, sound_number, state_number, pass_number, passed};
 
 use crate::groups::plan_number;
 use crate::places::place_of;
 use crate::{Answer, FrameState, Place, Plan, SLOT_WIDTH, no_plan, plan_in, state_at};
 
 fn open_number(plan: Plan, mask: u32, start: u32) -> u8
-    ensures { result ≡ openNumber plan mask start }
+    ensures { result ≡ open_number plan mask start }
 {
     let number = plan_number(plan);
     if number != 0 {
@@ -36,7 +36,7 @@ pub fn open(plan: Plan, mask: u32, start: u32) -> Answer
 
 // The refusal of a state for its plan or its register, or 0.
 fn sound_number(state: FrameState) -> u8
-    ensures { result ≡ soundNumber state }
+    ensures { result ≡ sound_number state }
 {
     if state.slot == 0 {
         return refusal::PLAN;
@@ -56,7 +56,7 @@ fn sound_number(state: FrameState) -> u8
 
 // What every slot call tests of the state handed in.
 pub fn state_number(state: FrameState) -> u8
-    ensures { result ≡ stateNumber state }
+    ensures { result ≡ state_number state }
 {
     let number = sound_number(state);
     if number != 0 {
@@ -71,7 +71,7 @@ pub fn state_number(state: FrameState) -> u8
 // The state one slot on, with a register.
 pub fn advanced(state: FrameState, register: u32) -> FrameState
     requires { state.slot ≤ 120 }
-    ensures { result ≡ movedOn state register }
+    ensures { result ≡ moved_on state register }
 {
     state_at(
         plan_in(state),
@@ -84,14 +84,14 @@ pub fn advanced(state: FrameState, register: u32) -> FrameState
 
 // The place of a state's next slot.
 pub fn next_place(state: FrameState) -> Place
-    requires { stateNumber state ≡ 0 }
-    ensures { result ≡ placeOf (planIn state) state.slot }
+    requires { state_number state ≡ 0 }
+    ensures { result ≡ place_of (plan_in state) state.slot }
 {
     place_of(plan_in(state), lists::index(state.slot))
 }
 
 fn pass_number(state: FrameState) -> u8
-    ensures { result ≡ passNumber state }
+    ensures { result ≡ pass_number state }
 {
     let number = state_number(state);
     if number != 0 {

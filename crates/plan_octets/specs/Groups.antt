@@ -3,8 +3,8 @@ use Rattle.std.specs.Prelude.{List, [], ◌∷◌, ℕ, ◌+◌, ltb, get_or}
 use Rattle.lists.specs.Choice.{pick}
 use Rattle.lists.specs.Count.{table, joined}
 use Rattle.plan.specs.declared.Plan.{Plan}
-use Rattle.plan.specs.Records.{ofColumns}
-use Rattle.plan.specs.Plans.{modulationOf, rateOf, slots_of}
+use Rattle.plan.specs.Records.{of_columns}
+use Rattle.plan.specs.Plans.{modulation_of, rate_of, slots_of}
 
 -- octet k of each group, and 0 where there is no such group
 unfoldable pub column : ℕ → List ℕ → List ℕ
@@ -20,8 +20,8 @@ column k octets =
     ∷ []
 
 -- the plan of so many groups in these octets
-unfoldable pub ofOctets : ℕ → List ℕ → Plan
-ofOctets count octets = ofColumns count (column 0 octets) (column 1 octets) (column 2 octets)
+unfoldable pub of_octets : ℕ → List ℕ → Plan
+of_octets count octets = of_columns count (column 0 octets) (column 1 octets) (column 2 octets)
 
 -- a group's value, and 0 for a group that is not used
 abbrev pub used : Plan → (ℕ → ℕ) → ℕ → ℕ
@@ -29,13 +29,13 @@ used p value g = pick (ltb g p.count) (value g) 0
 
 -- "modulation, rate and count" of group g
 unfoldable pub group_of : Plan → ℕ → List ℕ
-group_of p g = used p (modulationOf p) g ∷ used p (rateOf p) g ∷ used p (slots_of p) g ∷ []
+group_of p g = used p (modulation_of p) g ∷ used p (rate_of p) g ∷ used p (slots_of p) g ∷ []
 
 -- "eight groups"
 unfoldable pub groups_of : Plan → List ℕ
 groups_of p = joined 8 (group_of p)
 
 -- the plan with zeros for the groups that are not used
-unfoldable pub unusedZero : Plan → Plan
-unusedZero p =
-    ofColumns p.count (table 8 (used p (modulationOf p))) (table 8 (used p (rateOf p))) (table 8 (used p (slots_of p)))
+unfoldable pub unused_zero : Plan → Plan
+unused_zero p =
+    of_columns p.count (table 8 (used p (modulation_of p))) (table 8 (used p (rate_of p))) (table 8 (used p (slots_of p)))

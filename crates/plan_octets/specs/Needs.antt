@@ -1,12 +1,12 @@
 -- What the functions ask of their arguments.
 use Rattle.std.specs.Prelude.{◌≡◌, List, ℕ, ◌<◌, length}
 use Rattle.plan.specs.declared.Plan.{Plan}
-use Rattle.plan.specs.Plans.{modulationOf, rateOf, slots_of}
+use Rattle.plan.specs.Plans.{modulation_of, rate_of, slots_of}
 
 -- a plan whose groups fit their octets
 pub record Fits (p : Plan) : Type 0 where
-  pub modulation : (g : ℕ) → g < p.count → modulationOf p g < 256
-  pub rate : (g : ℕ) → g < p.count → rateOf p g < 256
+  pub modulation : (g : ℕ) → g < p.count → modulation_of p g < 256
+  pub rate : (g : ℕ) → g < p.count → rate_of p g < 256
   pub slots : (g : ℕ) → g < p.count → slots_of p g < 256
 
 -- such a plan, and an area for group g

@@ -1,6 +1,6 @@
 // Plans as octets: modulation, rate and slots of each group, an octet each.
 ghost use Rattle.std.specs.Prelude.{◌≡◌, ◌<◌};
-ghost use Rattle.plan_octets.specs.Groups.{column, ofOctets, group_of, groups_of};
+ghost use Rattle.plan_octets.specs.Groups.{column, of_octets, group_of, groups_of};
 ghost use Rattle.plan_octets.specs.Needs.{GroupRoom, Room};
 
 use plan::Plan;
@@ -24,7 +24,7 @@ fn column_of(octets: &[u8], k: usize) -> [u16; 8]
 
 // The plan of so many groups, from their octets.
 pub fn of_octets(count: u16, octets: &[u8]) -> Plan
-    ensures { result ≡ ofOctets count octets.now }
+    ensures { result ≡ of_octets count octets.now }
 {
     let modulation = column_of(octets, 0);
     let rate = column_of(octets, 1);

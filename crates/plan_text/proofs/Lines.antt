@@ -8,64 +8,64 @@ use native.Mathlib.Omega.{arith}
 use borrow.Author.Tests.{le-leb, lt-leb, eq-eqb, ne_eqb}
 use lib.Dec.{leb, eqb}
 use lib.ListN.{length}
-use Rattle.lists.specs.CountLaws.{first-is}
-use Rattle.plan_text.specs.Reading.{lineOk, line_of, lineStart, stopsAt, lines_of, textNumber}
-use Rattle.plan_text.specs.ReadingLaws.{line-none, line-more, line-within}
+use Rattle.lists.specs.CountLaws.{first_is}
+use Rattle.plan_text.specs.Reading.{line_ok, line_of, line_start, stops_at, lines_of, text_number}
+use Rattle.plan_text.specs.ReadingLaws.{line_none, line_more, line_within}
 
 -- n lines are passed, and the next one begins at a place of the text
 pub record Passed (t : List ℕ) (n at : ℕ) : Type 0 where
   pub few : n ≤ 8
-  pub place : at ≡ lineStart t n
+  pub place : at ≡ line_start t n
   pub within : at ≤ length t
-  pub right : (k : ℕ) → k < n → stopsAt t k ≡ false
+  pub right : (k : ℕ) → k < n → stops_at t k ≡ false
 
 pub passed_none : (t : List ℕ) → Passed t 0 0
-passed_none t = record { few = omega arith; place = sym (line-none t); within = omega arith; right = λ k h. absurd (omega arith) }
+passed_none t = record { few = omega arith; place = sym (line_none t); within = omega arith; right = λ k h. absurd (omega arith) }
 
-goes_on : (t : List ℕ) (n at : ℕ) → at ≡ lineStart t n → at < length t → lineOk t at ≡ true → stopsAt t n ≡ false
-unfolding stopsAt
+goes_on : (t : List ℕ) (n at : ℕ) → at ≡ line_start t n → at < length t → line_ok t at ≡ true → stops_at t n ≡ false
+unfolding stops_at
 goes_on t n at p l o = rw (← p, lt-leb (length t) at l, o)
 
-pub passed-next : (t : List ℕ) (n at : ℕ) → Passed t n at → n < 8 → at < length t → lineOk t at ≡ true → Passed t (n + 1) (line_of t at).next
-passed-next t n at f h l o =
+pub passed_next : (t : List ℕ) (n at : ℕ) → Passed t n at → n < 8 → at < length t → line_ok t at ≡ true → Passed t (n + 1) (line_of t at).next
+passed_next t n at f h l o =
     record {
       few = omega arith;
-      place = ap (λ (a : ℕ). (line_of t a).next) f.place ∙ sym (line-more t n);
-      within = line-within t at o;
+      place = ap (λ (a : ℕ). (line_of t a).next) f.place ∙ sym (line_more t n);
+      within = line_within t at o;
       right = λ k j. go k j (ℕ_discrete k n);
     }
   where
-    go : (k : ℕ) → k < n + 1 → Dec (k ≡ n) → stopsAt t k ≡ false
-    go k j (yes e) = ap (stopsAt t) e ∙ goes_on t n at f.place l o
+    go : (k : ℕ) → k < n + 1 → Dec (k ≡ n) → stops_at t k ≡ false
+    go k j (yes e) = ap (stops_at t) e ∙ goes_on t n at f.place l o
     go k j (no e) = f.right k (omega arith)
 
 -- where reading stops, the lines passed are all
-stopped : (t : List ℕ) (n at : ℕ) → Passed t n at → (n < 8 → stopsAt t n ≡ true) → lines_of t ≡ n
+stopped : (t : List ℕ) (n at : ℕ) → Passed t n at → (n < 8 → stops_at t n ≡ true) → lines_of t ≡ n
 unfolding lines_of
-stopped t n at f s = first-is 8 (stopsAt t) n (record { within = f.few; before = f.right; there = s })
+stopped t n at f s = first_is 8 (stops_at t) n (record { within = f.few; before = f.right; there = s })
 
 -- with text left over it is refused
-left_over : (t : List ℕ) (n at : ℕ) → Passed t n at → lines_of t ≡ n → at < length t → textNumber t ≡ 1
-unfolding textNumber
+left_over : (t : List ℕ) (n at : ℕ) → Passed t n at → lines_of t ≡ n → at < length t → text_number t ≡ 1
+unfolding text_number
 left_over t n at f e l =
-    let p : lineStart t (lines_of t) ≡ at = ap (lineStart t) e ∙ sym f.place in
-    let d : eqb (lineStart t (lines_of t)) (length t) ≡ false = ne_eqb (lineStart t (lines_of t)) (length t) (λ w. omega (arith, p, w)) in
+    let p : line_start t (lines_of t) ≡ at = ap (line_start t) e ∙ sym f.place in
+    let d : eqb (line_start t (lines_of t)) (length t) ≡ false = ne_eqb (line_start t (lines_of t)) (length t) (λ w. omega (arith, p, w)) in
     rw (d, and-false (leb (length t) 128))
 
-pub passed-many : (t : List ℕ) (n at : ℕ) → Passed t n at → n ≡ 8 → at < length t → textNumber t ≡ 1
-passed-many t n at f e l = left_over t n at f (stopped t n at f (λ h. absurd (omega arith))) l
+pub passed_many : (t : List ℕ) (n at : ℕ) → Passed t n at → n ≡ 8 → at < length t → text_number t ≡ 1
+passed_many t n at f e l = left_over t n at f (stopped t n at f (λ h. absurd (omega arith))) l
 
-pub passed-wrong : (t : List ℕ) (n at : ℕ) → Passed t n at → at < length t → lineOk t at ≡ false → textNumber t ≡ 1
-unfolding stopsAt
-passed-wrong t n at f l o =
+pub passed_wrong : (t : List ℕ) (n at : ℕ) → Passed t n at → at < length t → line_ok t at ≡ false → text_number t ≡ 1
+unfolding stops_at
+passed_wrong t n at f l o =
     left_over t n at f (stopped t n at f (λ h. rw (← f.place, lt-leb (length t) at l, o))) l
 
-pub passed-all : (t : List ℕ) (n at : ℕ) → Passed t n at → length t ≤ at → lines_of t ≡ n
-unfolding stopsAt
-passed-all t n at f l = stopped t n at f (λ h. rw (← f.place, le-leb (length t) at l))
+pub passed_all : (t : List ℕ) (n at : ℕ) → Passed t n at → length t ≤ at → lines_of t ≡ n
+unfolding stops_at
+passed_all t n at f l = stopped t n at f (λ h. rw (← f.place, le-leb (length t) at l))
 
-pub passed-ends : (t : List ℕ) (n at : ℕ) → Passed t n at → length t ≤ at → length t ≤ 128 → textNumber t ≡ 0
-unfolding textNumber
-passed-ends t n at f l h =
-    let e : lineStart t (lines_of t) ≡ length t = ap (lineStart t) (passed-all t n at f l) ∙ sym f.place ∙ omega (arith, f.within) in
+pub passed_ends : (t : List ℕ) (n at : ℕ) → Passed t n at → length t ≤ at → length t ≤ 128 → text_number t ≡ 0
+unfolding text_number
+passed_ends t n at f l h =
+    let e : line_start t (lines_of t) ≡ length t = ap (line_start t) (passed_all t n at f l) ∙ sym f.place ∙ omega (arith, f.within) in
     rw (le-leb (length t) 128 h, eq-eqb _ _ e)

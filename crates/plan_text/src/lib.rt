@@ -1,10 +1,10 @@
 // A plan's text, as plan-list has it, read: lines of modulation, rate and slots.
 ghost use Rattle.std.specs.Prelude.{◌&&◌, ◌||◌, not, ◌≡◌, ◌≤◌, eqb, length, get_or};
-ghost use Rattle.plan.specs.Records.{noPlan};
+ghost use Rattle.plan.specs.Records.{no_plan};
 ghost use Rattle.texts.specs.Characters.{SPACE, LINE-FEED, ZERO};
 ghost use Rattle.plan_text.specs.Needs.{Fields};
-ghost use Rattle.numerals.specs.Numerals.{isDigit};
-ghost use Rattle.plan_text.specs.Reading.{digitsAt, fieldOk, fieldValue, fieldEnd, line_of, textNumber, readAs, planRead};
+ghost use Rattle.numerals.specs.Numerals.{is_digit};
+ghost use Rattle.plan_text.specs.Reading.{digits_at, field_ok, field_value, field_end, line_of, text_number, read_as, plan_read};
 
 use plan::Plan;
 
@@ -31,7 +31,7 @@ pub struct PlanRead {
 }
 
 fn is_digit(c: u8) -> bool
-    ensures { result ≡ isDigit 10 c }
+    ensures { result ≡ is_digit 10 c }
 {
     numerals::digit(c) < 10
 }
@@ -39,7 +39,7 @@ fn is_digit(c: u8) -> bool
 // How many digits stand at a place, counted up to three.
 fn digits_at(text: &[u8], at: usize) -> usize
     requires { at ≤ 65536 }
-    ensures { result ≡ digitsAt text.now at }
+    ensures { result ≡ digits_at text.now at }
 {
     if is_digit(lists::octet_at(text, at)) {
         if is_digit(lists::octet_at(text, at + 1)) {
@@ -56,7 +56,7 @@ fn digits_at(text: &[u8], at: usize) -> usize
 // The number of the digits at a place.
 fn field_value(text: &[u8], at: usize) -> u16
     requires { at ≤ 65536 }
-    ensures { result ≡ fieldValue text.now at }
+    ensures { result ≡ field_value text.now at }
 {
     let count = digits_at(text, at);
     numerals::value(10, text, at, count) as u16
@@ -75,7 +75,7 @@ fn no_leading_zero(text: &[u8], at: usize, count: usize) -> bool
 // Whether a number stands at a place, with the separator behind it.
 fn field_ok(text: &[u8], at: usize, separator: u8) -> bool
     requires { at ≤ 65536 }
-    ensures { result ≡ fieldOk text.now at separator }
+    ensures { result ≡ field_ok text.now at separator }
 {
     let count = digits_at(text, at);
     if count < 1 {
@@ -90,14 +90,14 @@ fn field_ok(text: &[u8], at: usize, separator: u8) -> bool
 // The place behind a field and its separator.
 fn field_end(text: &[u8], at: usize) -> usize
     requires { at ≤ 65536 }
-    ensures { result ≡ fieldEnd text.now at }
+    ensures { result ≡ field_end text.now at }
 {
     at + digits_at(text, at) + 1
 }
 
 fn line_ok(text: &[u8], at: usize, rate_at: usize, slots_at: usize) -> bool
     requires { Fields at rate_at slots_at }
-    ensures { result ≡ (fieldOk text.now at SPACE && (fieldOk text.now rate_at SPACE && fieldOk text.now slots_at LINE-FEED)) }
+    ensures { result ≡ (field_ok text.now at SPACE && (field_ok text.now rate_at SPACE && field_ok text.now slots_at LINE-FEED)) }
 {
     if field_ok(text, at, SPACE) {
         if field_ok(text, rate_at, SPACE) {
@@ -128,7 +128,7 @@ fn read_line(text: &[u8], at: usize) -> Line
 }
 
 fn refused(number: u8) -> PlanRead
-    ensures { result ≡ record { number = number; plan = noPlan } }
+    ensures { result ≡ record { number = number; plan = no_plan } }
 {
     let plan = plan::no_plan();
     PlanRead { number, plan }
@@ -137,7 +137,7 @@ fn refused(number: u8) -> PlanRead
 // The lines of a text that is not too long, one for each group.
 fn read_lines(text: &[u8]) -> PlanRead
     requires { length text.now ≤ 128 }
-    ensures { result ≡ readAs (textNumber text.now) text.now }
+    ensures { result ≡ read_as (text_number text.now) text.now }
 {
     let mut modulation = [0u16; 8];
     let mut rate = [0u16; 8];
@@ -166,7 +166,7 @@ fn read_lines(text: &[u8]) -> PlanRead
 
 // Reads a plan: 0 and the plan, or the refusal of the text or of the plan and a plan of zeros.
 pub fn read_plan(text: &[u8]) -> PlanRead
-    ensures { result ≡ planRead text.now }
+    ensures { result ≡ plan_read text.now }
 {
     if 128 < text.len() {
         return refused(refusal::PLAN);

@@ -4,8 +4,8 @@ use Rattle.std.proofs.Common.{sym, ap, ap₂, ◌∙◌, arith, eq-eqb, ne_eqb}
 use Rattle.points.specs.declared.Point.{Point}
 use Rattle.points.specs.declared.PointAnswer.{PointAnswer}
 use Rattle.points.specs.declared.PointAnswer.TheVariants.{At, Refused}
-use Rattle.points.specs.Points.{arrangedOf}
-use Rattle.points.specs.Answers.{coordinates, valued, asValues, pointValues, Answers, turnedAnswer}
+use Rattle.points.specs.Points.{arranged_of}
+use Rattle.points.specs.Answers.{coordinates, valued, as_values, point_values, Answers, turned_answer}
 
 pub refused : (n k : ℕ) (p : Point) → k ≡ n → (k ≡ 0 → ⊥) → Answers n p (Refused k)
 refused n k p e d = record { number = e; values = rw (ne_eqb n 0 (λ z. d (e ∙ z))) }
@@ -21,14 +21,14 @@ same_point p r e =
     ap₂ (λ (x y : Float). record { i = x; q = y }) i q
 
 -- where there is a point, the number is 0 and the point the one that is right
-pub point-answered : (n : ℕ) (p r : Point) → Answers n p (At r) → (n ≡ 0) × (r ≡ p)
-point-answered n p r a =
+pub point_answered : (n : ℕ) (p r : Point) → Answers n p (At r) → (n ≡ 0) × (r ≡ p)
+point_answered n p r a =
     let z : n ≡ 0 = sym a.number in
     (z, same_point r p (rw (eq-eqb n 0 z) at a.values))
 
 -- where there is none, the number refuses
-pub refusal-answered : (n k : ℕ) (p : Point) → Answers n p (Refused k) → (k ≡ n) × (n ≡ 0 → ⊥)
-refusal-answered n k p a = (
+pub refusal_answered : (n k : ℕ) (p : Point) → Answers n p (Refused k) → (k ≡ n) × (n ≡ 0 → ⊥)
+refusal_answered n k p a = (
   a.number,
   λ z.
       let e : [] ≡ coordinates p = rw (eq-eqb n 0 z) at a.values in
@@ -37,14 +37,14 @@ refusal-answered n k p a = (
 )
 
 -- an answer has the number and the values of the point that is right
-pub values-answered : (n : ℕ) (p : Point) (r : PointAnswer) → Answers n p r → asValues r ≡ pointValues n p
-values-answered n p r a = ap₂ valued a.number a.values
+pub values_answered : (n : ℕ) (p : Point) (r : PointAnswer) → Answers n p r → as_values r ≡ point_values n p
+values_answered n p r a = ap₂ valued a.number a.values
 
 -- the turn by the register goes through the answer
-pub turned : (register n : ℕ) (p : Point) (r : PointAnswer) → Answers n p r → Answers n (arrangedOf register p) (turnedAnswer register r)
+pub turned : (register n : ℕ) (p : Point) (r : PointAnswer) → Answers n p r → Answers n (arranged_of register p) (turned_answer register r)
 turned register n p (At r) a =
-    let f = point-answered n p r a in
-    answered n (arrangedOf register p) (arrangedOf register r) f.0 (ap (arrangedOf register) f.1)
+    let f = point_answered n p r a in
+    answered n (arranged_of register p) (arranged_of register r) f.0 (ap (arranged_of register) f.1)
 turned register n p (Refused k) a =
-    let f = refusal-answered n k p a in
-    refused n k (arrangedOf register p) f.0 (λ z. f.1 (sym f.0 ∙ z))
+    let f = refusal_answered n k p a in
+    refused n k (arranged_of register p) f.0 (λ z. f.1 (sym f.0 ∙ z))

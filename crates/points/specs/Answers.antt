@@ -8,8 +8,8 @@ use Rattle.points.specs.declared.Point.{Point}
 use Rattle.points.specs.declared.PointAnswer.{PointAnswer}
 use Rattle.points.specs.declared.PointValues.{PointValues}
 use Rattle.points.specs.declared.PointAnswer.TheVariants.{At, Refused}
-use Rattle.points.specs.Points.{arrangedOf, inPhaseOf, quadratureOf}
-use Rattle.points.specs.Numbers.{pointsNumber}
+use Rattle.points.specs.Points.{arranged_of, in_phase_of, quadrature_of}
+use Rattle.points.specs.Numbers.{points_number}
 
 -- "a point with both coordinates": I, then Q
 abbrev pub coordinates : Point → List Float
@@ -26,20 +26,20 @@ values_of (At p) = coordinates p
 values_of (Refused n) = []
 
 -- "Every other number returned with a refusal is 0" (document 01, "Refusal list"): the float of 32 zeros, which is +0
-abbrev pub noCoordinate : Float
-noCoordinate = of_bits binary32 0
+abbrev pub no_coordinate : Float
+no_coordinate = of_bits binary32 0
 
 -- number and values side by side, for a caller that takes no enum
 abbrev pub valued : ℕ → List Float → PointValues
-valued n values = record { number = n; i = get_or values 0 noCoordinate; q = get_or values 1 noCoordinate }
+valued n values = record { number = n; i = get_or values 0 no_coordinate; q = get_or values 1 no_coordinate }
 
 -- an answer, by its number and its values
-abbrev pub asValues : PointAnswer → PointValues
-asValues r = valued (number_of r) (values_of r)
+abbrev pub as_values : PointAnswer → PointValues
+as_values r = valued (number_of r) (values_of r)
 
 -- "a point with both coordinates, or the refusal": of the number n, and of the point p where n is 0
-abbrev pub pointValues : ℕ → Point → PointValues
-pointValues n p = valued n (pick (eqb n 0) (coordinates p) [])
+abbrev pub point_values : ℕ → Point → PointValues
+point_values n p = valued n (pick (eqb n 0) (coordinates p) [])
 
 -- "The answer is a point with both coordinates, or the refusal": the number is n, and the point p where n is 0
 pub record Answers (n : ℕ) (p : Point) (r : PointAnswer) : Type 0 where
@@ -47,11 +47,11 @@ pub record Answers (n : ℕ) (p : Point) (r : PointAnswer) : Type 0 where
   pub values : values_of r ≡ pick (eqb n 0) (coordinates p) []
 
 -- an answer in the signal point arrangement signal: its point "turn[s] by 180 degrees" by the register
-abbrev pub turnedAnswer : ℕ → PointAnswer → PointAnswer
-turnedAnswer register (At p) = At (arrangedOf register p)
-turnedAnswer register (Refused n) = Refused n
+abbrev pub turned_answer : ℕ → PointAnswer → PointAnswer
+turned_answer register (At p) = At (arranged_of register p)
+turned_answer register (Refused n) = Refused n
 
 -- the points of a run of labels: the call's number r, and both areas, left as found by a refusal
 pub record PointsMade (m symbol : ℕ) (labels : List ℕ) (ins quads is qs : List Float) (r : ℕ) (i-left q-left : List Float) : Type 0 where
-  pub in-phase : Answered (pointsNumber m symbol labels ins quads (length is) (length qs)) (inPhaseOf m symbol labels ins quads) is r i-left
-  pub quadrature : Answered (pointsNumber m symbol labels ins quads (length is) (length qs)) (quadratureOf m symbol labels ins quads) qs r q-left
+  pub in_phase : Answered (points_number m symbol labels ins quads (length is) (length qs)) (in_phase_of m symbol labels ins quads) is r i-left
+  pub quadrature : Answered (points_number m symbol labels ins quads (length is) (length qs)) (quadrature_of m symbol labels ins quads) qs r q-left

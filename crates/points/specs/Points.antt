@@ -10,16 +10,16 @@ use Rattle.dispersal.specs.Register.{top}
 use Rattle.points.specs.declared.Point.{Point}
 
 -- "turn by 90 degrees anticlockwise, which makes (I, Q) into (−Q, I)"
-abbrev pub quarterTurn : Point → Point
-quarterTurn p = record { i = neg p.q; q = p.i }
+abbrev pub quarter_turn : Point → Point
+quarter_turn p = record { i = neg p.q; q = p.i }
 
 -- "turn by 180 degrees"
-abbrev pub halfTurn : Point → Point
-halfTurn p = record { i = neg p.i; q = neg p.q }
+abbrev pub half_turn : Point → Point
+half_turn p = record { i = neg p.i; q = neg p.q }
 
 -- "two lists of 32-bit floats, in-phase and quadrature, with one entry for each label"
-abbrev pub lentPoint : List Float → List Float → ℕ → Point
-lentPoint ins quads label = record { i = get_or ins label nan; q = get_or quads label nan }
+abbrev pub lent_point : List Float → List Float → ℕ → Point
+lent_point ins quads label = record { i = get_or ins label nan; q = get_or quads label nan }
 
 -- document 01, "Plan and place": "1 π/2-shift BPSK"
 abbrev pub bpsk : ℕ
@@ -27,28 +27,28 @@ bpsk = 1
 
 -- "For BPSK the caller gives the symbol number .., and even symbols turn by 90 degrees anticlockwise"
 unfoldable pub shifted : ℕ → ℕ → Point → Point
-shifted m symbol p = pick (eqb m bpsk && eqb (symbol % 2) 0) (quarterTurn p) p
+shifted m symbol p = pick (eqb m bpsk && eqb (symbol % 2) 0) (quarter_turn p) p
 
 -- "The modulator wants points, not labels": the point of a label under modulation m, as symbol number `symbol`
 unfoldable pub point_of : ℕ → ℕ → List Float → List Float → ℕ → Point
-point_of m symbol ins quads label = shifted m symbol (lentPoint ins quads label)
+point_of m symbol ins quads label = shifted m symbol (lent_point ins quads label)
 
 -- "a 15-bit register"
-abbrev pub arrangedWidth : ℕ
-arrangedWidth = 15
+abbrev pub arranged_width : ℕ
+arranged_width = 15
 
 -- "Symbols of the signal point arrangement signal turn by 180 degrees where a 15-bit register gives 1": it gives its bit of
 -- weight 2^14
-unfoldable pub arrangedOf : ℕ → Point → Point
-arrangedOf register p = pick (eqb (top arrangedWidth register) 1) (halfTurn p) p
+unfoldable pub arranged_of : ℕ → Point → Point
+arranged_of register p = pick (eqb (top arranged_width register) 1) (half_turn p) p
 
 -- the coordinates of a run of labels: the first is symbol number `symbol`, and the numbers go on from there as whole numbers
-unfoldable pub inPhaseOf : ℕ → ℕ → List ℕ → List Float → List Float → List Float
-inPhaseOf m symbol labels ins quads = table (length labels) (λ r. (point_of m (symbol + r) ins quads (get_or labels r 0)).i)
+unfoldable pub in_phase_of : ℕ → ℕ → List ℕ → List Float → List Float → List Float
+in_phase_of m symbol labels ins quads = table (length labels) (λ r. (point_of m (symbol + r) ins quads (get_or labels r 0)).i)
 
-unfoldable pub quadratureOf : ℕ → ℕ → List ℕ → List Float → List Float → List Float
-quadratureOf m symbol labels ins quads = table (length labels) (λ r. (point_of m (symbol + r) ins quads (get_or labels r 0)).q)
+unfoldable pub quadrature_of : ℕ → ℕ → List ℕ → List Float → List Float → List Float
+quadrature_of m symbol labels ins quads = table (length labels) (λ r. (point_of m (symbol + r) ins quads (get_or labels r 0)).q)
 
 -- both entries that a label uses are finite
-unfoldable pub usedOk : List Float → List Float → ℕ → Bool
-usedOk ins quads label = finite (get_or ins label nan) && finite (get_or quads label nan)
+unfoldable pub used_ok : List Float → List Float → ℕ → Bool
+used_ok ins quads label = finite (get_or ins label nan) && finite (get_or quads label nan)

@@ -1,9 +1,9 @@
 // The calls: the point of a symbol, of one of the signal point arrangement signal, the step of that signal's register, and the
 // points of a run of labels.
 ghost use Rattle.std.specs.Prelude.{◌≡◌};
-ghost use Rattle.points.specs.Points.{point_of, arrangedOf};
-ghost use Rattle.points.specs.Answers.{Answers, turnedAnswer, asValues, pointValues, PointsMade};
-ghost use Rattle.points.specs.Numbers.{mappedNumber, pointNumber, arrangedNumber, stepAnswer};
+ghost use Rattle.points.specs.Points.{point_of, arranged_of};
+ghost use Rattle.points.specs.Answers.{Answers, turned_answer, as_values, point_values, PointsMade};
+ghost use Rattle.points.specs.Numbers.{mapped_number, point_number, arranged_number, step_answer};
 
 use crate::mapping::{answer_of, put_points};
 use crate::numbers::{lent_number, points_number};
@@ -22,7 +22,7 @@ fn mapped(
     in_phase: &[f32],
     quadrature: &[f32],
 ) -> PointAnswer
-    ensures { Answers (mappedNumber register modulation label symbol in_phase.now quadrature.now) (point_of modulation symbol in_phase.now quadrature.now label) result }
+    ensures { Answers (mapped_number register modulation label symbol in_phase.now quadrature.now) (point_of modulation symbol in_phase.now quadrature.now label) result }
 {
     let number = lent_number(
         modulation,
@@ -50,14 +50,14 @@ pub fn point_of_label(
     in_phase: &[f32],
     quadrature: &[f32],
 ) -> PointAnswer
-    ensures { Answers (pointNumber modulation label symbol in_phase.now quadrature.now) (point_of modulation symbol in_phase.now quadrature.now label) result }
+    ensures { Answers (point_number modulation label symbol in_phase.now quadrature.now) (point_of modulation symbol in_phase.now quadrature.now label) result }
 {
     mapped(true, modulation, label, symbol, in_phase, quadrature)
 }
 
 // The answer with its point turned by 180 degrees where the register gives 1.
 fn turned(register: u32, answer: PointAnswer) -> PointAnswer
-    ensures { result ≡ turnedAnswer register answer }
+    ensures { result ≡ turned_answer register answer }
 {
     match answer {
         PointAnswer::At(p) => {
@@ -80,7 +80,7 @@ pub fn arranged_point(
     mask: u32,
     register: u32,
 ) -> PointAnswer
-    ensures { Answers (arrangedNumber modulation label symbol in_phase.now quadrature.now mask register) (arrangedOf register (point_of modulation symbol in_phase.now quadrature.now label)) result }
+    ensures { Answers (arranged_number modulation label symbol in_phase.now quadrature.now mask register) (arranged_of register (point_of modulation symbol in_phase.now quadrature.now label)) result }
 {
     let sound = dispersal::settings_ok(WIDTH, mask, register);
     let answer = mapped(sound, modulation, label, symbol, in_phase, quadrature);
@@ -89,7 +89,7 @@ pub fn arranged_point(
 
 // Number and coordinates of an answer.
 fn values_of(answer: PointAnswer) -> PointValues
-    ensures { result ≡ asValues answer }
+    ensures { result ≡ as_values answer }
 {
     match answer {
         PointAnswer::At(p) => PointValues {
@@ -113,7 +113,7 @@ pub fn point_values(
     in_phase: &[f32],
     quadrature: &[f32],
 ) -> PointValues
-    ensures { result ≡ pointValues (pointNumber modulation label symbol in_phase.now quadrature.now) (point_of modulation symbol in_phase.now quadrature.now label) }
+    ensures { result ≡ point_values (point_number modulation label symbol in_phase.now quadrature.now) (point_of modulation symbol in_phase.now quadrature.now label) }
 {
     values_of(point_of_label(modulation, label, symbol, in_phase, quadrature))
 }
@@ -128,7 +128,7 @@ pub fn arranged_values(
     mask: u32,
     register: u32,
 ) -> PointValues
-    ensures { result ≡ pointValues (arrangedNumber modulation label symbol in_phase.now quadrature.now mask register) (arrangedOf register (point_of modulation symbol in_phase.now quadrature.now label)) }
+    ensures { result ≡ point_values (arranged_number modulation label symbol in_phase.now quadrature.now mask register) (arranged_of register (point_of modulation symbol in_phase.now quadrature.now label)) }
 {
     values_of(arranged_point(
         modulation, label, symbol, in_phase, quadrature, mask, register,
@@ -137,7 +137,7 @@ pub fn arranged_values(
 
 // The register of the signal point arrangement signal one step on, or 0 and the refusal.
 pub fn arranged_step(mask: u32, register: u32) -> StepAnswer
-    ensures { result ≡ stepAnswer mask register }
+    ensures { result ≡ step_answer mask register }
 {
     if dispersal::settings_ok(WIDTH, mask, register) {
         let next = dispersal::stepped(WIDTH, mask, register);

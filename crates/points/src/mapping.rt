@@ -2,7 +2,7 @@
 ghost use Rattle.std.specs.Prelude.{◌≡◌};
 ghost use Rattle.lists.specs.Choice.{pick};
 ghost use Rattle.refusal.specs.Numbers.{COORDINATE};
-ghost use Rattle.points.specs.Points.{shifted, point_of, usedOk, inPhaseOf, quadratureOf};
+ghost use Rattle.points.specs.Points.{shifted, point_of, used_ok, in_phase_of, quadrature_of};
 ghost use Rattle.points.specs.Answers.{Answers};
 ghost use Rattle.points.specs.Needs.{Listed, Areas};
 
@@ -45,7 +45,7 @@ fn point_of(
 // Whether both entries of a label are finite.
 pub fn used_ok(in_phase: &[f32], quadrature: &[f32], label: usize) -> bool
     requires { Listed in_phase.now quadrature.now label }
-    ensures { result ≡ usedOk in_phase.now quadrature.now label }
+    ensures { result ≡ used_ok in_phase.now quadrature.now label }
 {
     if is_finite(in_phase[label]) {
         return is_finite(quadrature[label]);
@@ -62,7 +62,7 @@ pub fn answer_of(
     label: usize,
 ) -> PointAnswer
     requires { Listed in_phase.now quadrature.now label }
-    ensures { Answers (pick (usedOk in_phase.now quadrature.now label) 0 COORDINATE) (point_of modulation symbol in_phase.now quadrature.now label) result }
+    ensures { Answers (pick (used_ok in_phase.now quadrature.now label) 0 COORDINATE) (point_of modulation symbol in_phase.now quadrature.now label) result }
 {
     if used_ok(in_phase, quadrature, label) {
         return PointAnswer::At(point_of(modulation, symbol, in_phase, quadrature, label));
@@ -81,8 +81,8 @@ pub fn put_points(
     q: &mut [f32],
 )
     requires { Areas labels.now in_phase.now quadrature.now i.old q.old }
-    ensures i_after { i.new ≡ inPhaseOf modulation symbol labels.now in_phase.now quadrature.now }
-    ensures q_after { q.new ≡ quadratureOf modulation symbol labels.now in_phase.now quadrature.now }
+    ensures i_after { i.new ≡ in_phase_of modulation symbol labels.now in_phase.now quadrature.now }
+    ensures q_after { q.new ≡ quadrature_of modulation symbol labels.now in_phase.now quadrature.now }
 {
     let mut at = symbol as usize;
     let mut r: usize = 0;

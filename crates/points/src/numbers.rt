@@ -1,15 +1,15 @@
 // The refusals of the calls.
 ghost use Rattle.std.specs.Prelude.{◌≡◌, ◌&&◌, ◌≤◌, length};
 ghost use Rattle.lists.specs.Count.{every};
-ghost use Rattle.points.specs.Points.{usedOk};
+ghost use Rattle.points.specs.Points.{used_ok};
 ghost use Rattle.points.specs.Needs.{AllListed};
-ghost use Rattle.points.specs.Numbers.{symbolOk, lentOk, lentNumber, roomOk, usedNumber, pointsNumber};
+ghost use Rattle.points.specs.Numbers.{symbol_ok, lent_ok, lent_number, room_ok, used_number, points_number};
 
 use crate::mapping::{BPSK, used_ok};
 
 // Whether a symbol number is allowed: 0 is not, where the number counts.
 fn symbol_ok(modulation: u32, symbol: u32) -> bool
-    ensures { result ≡ symbolOk modulation symbol }
+    ensures { result ≡ symbol_ok modulation symbol }
 {
     if modulation == BPSK {
         return 0 < symbol;
@@ -20,7 +20,7 @@ fn symbol_ok(modulation: u32, symbol: u32) -> bool
 // Whether both lists, given as their lengths, have an entry for each label, and the symbol number is allowed.
 fn lent_ok(modulation: u32, symbol: u32, in_phase: usize, quadrature: usize) -> bool
     requires { modulation ≤ 5 }
-    ensures { result ≡ lentOk modulation symbol in_phase quadrature }
+    ensures { result ≡ lent_ok modulation symbol in_phase quadrature }
 {
     let entries = 1usize << modulation as usize;
     if in_phase != entries {
@@ -41,7 +41,7 @@ pub fn lent_number(
     quadrature: usize,
     room: bool,
 ) -> u8
-    ensures { result ≡ lentNumber modulation register (lentOk modulation symbol in_phase quadrature && room) }
+    ensures { result ≡ lent_number modulation register (lent_ok modulation symbol in_phase quadrature && room) }
 {
     if plan::known(modulation, plan::MODULATIONS) {
         if register {
@@ -60,7 +60,7 @@ pub fn lent_number(
 // Whether all entries are finite, and so those that any label uses.
 fn entries_ok(in_phase: &[f32], quadrature: &[f32]) -> bool
     requires { length in_phase.now ≡ length quadrature.now }
-    ensures { result ≡ every (length in_phase.now) (usedOk in_phase.now quadrature.now) }
+    ensures { result ≡ every (length in_phase.now) (used_ok in_phase.now quadrature.now) }
 {
     let mut k: usize = 0;
     while k < in_phase.len() {
@@ -76,7 +76,7 @@ fn entries_ok(in_phase: &[f32], quadrature: &[f32]) -> bool
 // The refusal of an entry that a label uses and that is not finite, or 0.
 fn used_number(labels: &[u8], in_phase: &[f32], quadrature: &[f32]) -> u8
     requires { AllListed in_phase.now quadrature.now labels.now }
-    ensures { result ≡ usedNumber labels.now in_phase.now quadrature.now }
+    ensures { result ≡ used_number labels.now in_phase.now quadrature.now }
 {
     let mut r: usize = 0;
     while r < labels.len() {
@@ -91,7 +91,7 @@ fn used_number(labels: &[u8], in_phase: &[f32], quadrature: &[f32]) -> u8
 
 // Whether both areas, given as their lengths, have room for so many labels.
 fn room_ok(labels: usize, i: usize, q: usize) -> bool
-    ensures { result ≡ roomOk labels i q }
+    ensures { result ≡ room_ok labels i q }
 {
     if i == labels {
         return q == labels;
@@ -109,7 +109,7 @@ pub fn points_number(
     i: usize,
     q: usize,
 ) -> u8
-    ensures { result ≡ pointsNumber modulation symbol labels.now in_phase.now quadrature.now i q }
+    ensures { result ≡ points_number modulation symbol labels.now in_phase.now quadrature.now i q }
 {
     let room = room_ok(labels.len(), i, q);
     let number = lent_number(

@@ -2,7 +2,7 @@
 use Rattle.std.specs.Prelude.{List, [], ◌∷◌, ◌++◌, ℕ, zero, suc, ◌-◌, eqb, length}
 use Rattle.lists.specs.Choice.{pick, and_then}
 use Rattle.refusal.specs.Numbers.{PLAN, LENGTH}
-use Rattle.plan.specs.Rates.{rateOk}
+use Rattle.plan.specs.Rates.{rate_ok}
 use Rattle.published.specs.Printed.{rate1, rate2, rate3, rate4, rate5, rate6, rate7, rate8, rate9, rate10, rate11}
 
 -- the rows of the eleven tables
@@ -30,8 +30,8 @@ table_of rate = table_at (rate - 1)
 
 -- its length; 0 for any other number
 unfoldable pub length_of : ℕ → ℕ
-length_of rate = pick (rateOk rate) (length (table_of rate)) 0
+length_of rate = pick (rate_ok rate) (length (table_of rate)) 0
 
 -- document 01, "Refusal list": 1 where the rate is unknown, then 4 where the area isn't exactly the table's length
-unfoldable pub copyNumber : ℕ → List ℕ → ℕ
-copyNumber rate area = and_then (pick (rateOk rate) 0 PLAN) (pick (eqb (length area) (length (table_of rate))) 0 LENGTH)
+unfoldable pub copy_number : ℕ → List ℕ → ℕ
+copy_number rate area = and_then (pick (rate_ok rate) 0 PLAN) (pick (eqb (length area) (length (table_of rate))) 0 LENGTH)

@@ -1,16 +1,16 @@
 // Copying the published table of a rate.
 ghost use Rattle.std.specs.Prelude.{◌≡◌, ◌≤◌, length};
 ghost use Rattle.lists.specs.Count.{joined};
-ghost use Rattle.lists.specs.CountLaws.{joinedAt};
+ghost use Rattle.lists.specs.CountLaws.{joined_at};
 ghost use Rattle.refusal.specs.Answers.{Answered};
-ghost use Rattle.published.specs.Published.{table_at, table_of, length_of, copyNumber};
+ghost use Rattle.published.specs.Published.{table_at, table_of, length_of, copy_number};
 
 use crate::data::{STARTS, TABLES};
 
 // Where the table of rate k + 1 starts, and at 11 the end of the last.
 fn start(k: usize) -> usize
     requires { k ≤ 11 }
-    ensures { result ≡ joinedAt table_at k }
+    ensures { result ≡ joined_at table_at k }
 {
     STARTS[k]
 }
@@ -42,7 +42,7 @@ fn copy(from: &[u16], to: &mut [u16])
 // Copies the table of a rate from all of them.
 fn copy_from(tables: &[u16], rate: u32, area: &mut [u16]) -> u8
     requires { tables.now ≡ joined 11 table_at }
-    ensures { Answered (copyNumber rate area.old) (table_of rate) area.old result area.new }
+    ensures { Answered (copy_number rate area.old) (table_of rate) area.old result area.new }
 {
     if !plan::known(rate, plan::RATES) {
         return refusal::PLAN;
@@ -59,7 +59,7 @@ fn copy_from(tables: &[u16], rate: u32, area: &mut [u16]) -> u8
 
 // Copies the published table of a rate from 1 to 11 into an area of exactly its length.
 pub fn copy_table(rate: u32, area: &mut [u16]) -> u8
-    ensures { Answered (copyNumber rate area.old) (table_of rate) area.old result area.new }
+    ensures { Answered (copy_number rate area.old) (table_of rate) area.old result area.new }
 {
     let tables = TABLES;
     copy_from(&tables, rate, area)

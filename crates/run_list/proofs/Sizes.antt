@@ -2,39 +2,39 @@
 use mathlib.Core.Path.{◌≡◌, sym, ◌∙◌}
 use Prim.Native.Nat.{ℕ, ◌+◌, ◌-◌, ◌≤◌, ◌<◌}
 use native.Mathlib.Omega.{arith}
-use Rattle.lists.specs.CountLaws.{sum-add, sum_same}
+use Rattle.lists.specs.CountLaws.{sum_add, sum_same}
 use Rattle.plan.specs.declared.Plan.{Plan}
-use Rattle.plan.specs.Plans.{modulationOf, rateOf, slots_of, slotsBefore, planNumber, dataSlotsOf}
-use Rattle.plan.specs.PlanLaws.{accepted, group-values, before_more, before-mono, data-within}
+use Rattle.plan.specs.Plans.{modulation_of, rate_of, slots_of, slots_before, plan_number, data_slots_of}
+use Rattle.plan.specs.PlanLaws.{accepted, group_values, before_more, before_mono, data_within}
 use Rattle.plan.specs.RateLaws.{between}
-use Rattle.run_list.specs.Listing.{dataTotal, dummyTotal}
+use Rattle.run_list.specs.Listing.{data_total, dummy_total}
 
 pub record Sizes (p : Plan) (g : ℕ) : Type 0 where
   pub few : g < 8
-  pub ends : slotsBefore p g + slots_of p g ≤ 120
-  pub carried : dataSlotsOf p g ≤ slots_of p g
-  pub modulation : modulationOf p g ≤ 5
-  pub rate : rateOf p g ≤ 11
+  pub ends : slots_before p g + slots_of p g ≤ 120
+  pub carried : data_slots_of p g ≤ slots_of p g
+  pub modulation : modulation_of p g ≤ 5
+  pub rate : rate_of p g ≤ 11
 
-pub sizes : (p : Plan) (g : ℕ) → planNumber p ≡ 0 → g < p.count → Sizes p g
+pub sizes : (p : Plan) (g : ℕ) → plan_number p ≡ 0 → g < p.count → Sizes p g
 sizes p g n h =
     let a = accepted p n in
-    let v = group-values p g a h in
-    let m = between 1 5 (modulationOf p g) v.modulation in
-    let e : slotsBefore p g + slots_of p g ≤ 120 = omega (arith, before_more p g, before-mono p (g + 1) p.count (omega arith), a.total) in
+    let v = group_values p g a h in
+    let m = between 1 5 (modulation_of p g) v.modulation in
+    let e : slots_before p g + slots_of p g ≤ 120 = omega (arith, before_more p g, before_mono p (g + 1) p.count (omega arith), a.total) in
     record {
       few = omega (arith, a.high);
       ends = e;
-      carried = data-within p g a h;
+      carried = data_within p g a h;
       modulation = m.high;
-      rate = (between 1 11 (rateOf p g) v.rate).high;
+      rate = (between 1 11 (rate_of p g) v.rate).high;
     }
 
 -- the data and the dummy slots together are 120
-pub totals : (p : Plan) → planNumber p ≡ 0 → dataTotal p + dummyTotal p ≡ 120
-unfolding dataTotal dummyTotal slotsBefore
+pub totals : (p : Plan) → plan_number p ≡ 0 → data_total p + dummy_total p ≡ 120
+unfolding data_total dummy_total slots_before
 totals p n =
     let a = accepted p n in
-    sym (sum-add p.count (dataSlotsOf p) (λ g. slots_of p g - dataSlotsOf p g))
-    ∙ sum_same p.count (λ g. dataSlotsOf p g + (slots_of p g - dataSlotsOf p g)) (slots_of p) (λ g h. omega (arith, data-within p g a h))
+    sym (sum_add p.count (data_slots_of p) (λ g. slots_of p g - data_slots_of p g))
+    ∙ sum_same p.count (λ g. data_slots_of p g + (slots_of p g - data_slots_of p g)) (slots_of p) (λ g h. omega (arith, data_within p g a h))
     ∙ a.total

@@ -3,10 +3,10 @@ ghost use Rattle.std.specs.Prelude.{[], ◌≡◌, eqb, leb, length};
 ghost use Rattle.lists.specs.Choice.{pick};
 ghost use Rattle.lists.specs.Count.{joined};
 ghost use Rattle.lists.specs.Parts.{put};
-ghost use Rattle.plan.specs.Plans.{planNumber};
+ghost use Rattle.plan.specs.Plans.{plan_number};
 ghost use Rattle.texts.specs.Needs.{Number};
 ghost use Rattle.texts.specs.Written.{Written};
-ghost use Rattle.run_list.specs.Listing.{runLine, groupText, dataTotal, totalLine, listText, listed, refusedText, answerText};
+ghost use Rattle.run_list.specs.Listing.{run_line, group_text, data_total, total_line, list_text, listed, refused_text, answer_text};
 ghost use Rattle.run_list.specs.Needs.{Taken, RunLine, GroupLines, PlanLines, Totals, ListArea};
 
 use plan::Plan;
@@ -30,7 +30,7 @@ fn write_run(
     word: &[u8],
 ) -> usize
     requires { RunLine from to modulation rate at word.now out.old }
-    ensures { Written (pick (leb from to) (runLine from to modulation rate word.now) []) at out.old out.new result }
+    ensures { Written (pick (leb from to) (run_line from to modulation rate word.now) []) at out.old out.new result }
 {
     if to < from {
         return at;
@@ -45,7 +45,7 @@ fn write_run(
 // The lines of group g, before which the groups passed have their slots.
 fn write_group(out: &mut [u8], at: usize, plan: Plan, g: usize, passed: usize) -> usize
     requires { GroupLines plan g passed at out.old }
-    ensures { Written (groupText plan g) at out.old out.new result }
+    ensures { Written (group_text plan g) at out.old out.new result }
 {
     let slots = lists::index(plan.slots[g]);
     let modulation = lists::index(plan.modulation[g]);
@@ -58,7 +58,7 @@ fn write_group(out: &mut [u8], at: usize, plan: Plan, g: usize, passed: usize) -
 
 fn write_groups(out: &mut [u8], at: usize, plan: Plan) -> usize
     requires { PlanLines plan at out.old }
-    ensures { Written (joined plan.count (groupText plan)) at out.old out.new result }
+    ensures { Written (joined plan.count (group_text plan)) at out.old out.new result }
 {
     let count = lists::index(plan.count);
     let mut g: usize = 0;
@@ -74,8 +74,8 @@ fn write_groups(out: &mut [u8], at: usize, plan: Plan) -> usize
 
 // The data slots of all groups.
 fn data_total(plan: Plan) -> usize
-    requires { planNumber plan ≡ 0 }
-    ensures { result ≡ dataTotal plan }
+    requires { plan_number plan ≡ 0 }
+    ensures { result ≡ data_total plan }
 {
     let count = lists::index(plan.count);
     let mut g: usize = 0;
@@ -89,7 +89,7 @@ fn data_total(plan: Plan) -> usize
 
 fn write_total(out: &mut [u8], at: usize, data: usize, dummies: usize) -> usize
     requires { Totals «data» dummies at out.old }
-    ensures { Written (totalLine «data» dummies) at out.old out.new result }
+    ensures { Written (total_line «data» dummies) at out.old out.new result }
 {
     let first = put_text(out, at, b"total ");
     let word = put_field(out, first, data);
@@ -101,7 +101,7 @@ fn write_total(out: &mut [u8], at: usize, data: usize, dummies: usize) -> usize
 // The list of an accepted plan.
 fn write_all(out: &mut [u8], plan: Plan) -> usize
     requires { ListArea plan out.old }
-    ensures { Written (listText plan) 0 out.old out.new result }
+    ensures { Written (list_text plan) 0 out.old out.new result }
 {
     let groups = put_text(out, 0, b"first last mod rate kind\n");
     let total = write_groups(out, groups, plan);
@@ -111,7 +111,7 @@ fn write_all(out: &mut [u8], plan: Plan) -> usize
 
 fn write_refusal(out: &mut [u8], number: usize) -> usize
     requires { Number number 16 out.old }
-    ensures { Written (refusedText number) 0 out.old out.new result }
+    ensures { Written (refused_text number) 0 out.old out.new result }
 {
     let first = put_text(out, 0, b"refused ");
     let last = put_decimal(out, first, number);
@@ -121,7 +121,7 @@ fn write_refusal(out: &mut [u8], number: usize) -> usize
 // Writes the list of a plan: 0 and how many octets it takes, or the plan's refusal, 0, and the area as it was.
 pub fn write_list(plan: Plan, out: &mut [u8; 512]) -> Listed
     ensures value { result ≡ listed plan }
-    ensures out_after { out.new ≡ pick (eqb (planNumber plan) 0) (put 0 (listText plan) out.old) out.old }
+    ensures out_after { out.new ≡ pick (eqb (plan_number plan) 0) (put 0 (list_text plan) out.old) out.old }
 {
     let number = plan::plan_number(plan);
     if number != 0 {
@@ -134,8 +134,8 @@ pub fn write_list(plan: Plan, out: &mut [u8; 512]) -> Listed
 // What plan-list prints for a text: the list of its plan, or the line of its refusal; and how many octets that takes. The
 // last clause follows from the others; with it `&out[..n]` needs no proof from a caller.
 pub fn answer(text: &[u8], out: &mut [u8; 512]) -> usize
-    ensures value { result ≡ length (answerText text.now) }
-    ensures out_after { out.new ≡ put 0 (answerText text.now) out.old }
+    ensures value { result ≡ length (answer_text text.now) }
+    ensures out_after { out.new ≡ put 0 (answer_text text.now) out.old }
     ensures taken { Taken result out.new }
 {
     let read = plan_text::read_plan(text);

@@ -1,15 +1,15 @@
 // Calls on a whole frame.
 ghost use Rattle.std.specs.Prelude.{◌≡◌, eqb, length};
-ghost use Rattle.frame.specs.Frames.{frame_of, frameNumber, answersOf, stuffsOf, positionsOf, sourcesOf, readFrameNumber};
+ghost use Rattle.frame.specs.Frames.{frame_of, frame_number, answers_of, stuffs_of, positions_of, sources_of, read_frame_number};
 ghost use Rattle.lists.specs.Choice.{pick};
-ghost use Rattle.lookup.specs.Lookups.{sourceOctets};
+ghost use Rattle.lookup.specs.Lookups.{source_octets};
 ghost use Rattle.refusal.specs.Answers.{Answered};
 
 use plan::Plan;
 
 #[unsafe(no_mangle)]
 pub extern "C" fn s3_source_octets(plan: Plan) -> usize
-    ensures { result ≡ sourceOctets plan }
+    ensures { result ≡ source_octets plan }
 {
     lookup::source_octets(plan)
 }
@@ -23,7 +23,7 @@ pub extern "C" fn s3_code_frame(
     source: &[u8],
     frame: &mut [u8],
 ) -> u8
-    ensures { Answered (frameNumber plan mask start tables.now (length source.now) (length frame.old)) (frame_of plan tables.now mask start source.now frame.old) frame.old result frame.new }
+    ensures { Answered (frame_number plan mask start tables.now (length source.now) (length frame.old)) (frame_of plan tables.now mask start source.now frame.old) frame.old result frame.new }
 {
     frame_coder::code_frame(plan, mask, start, tables, source, frame)
 }
@@ -40,11 +40,11 @@ pub extern "C" fn s3_read_frame(
     stuff: &mut [u8],
     positions: &mut [u16],
 ) -> u8
-    ensures value { result ≡ readFrameNumber plan mask start tables.now (length source.old) (length frame.now) (length answers.old) (length stuff.old) (length positions.old) }
-    ensures source_after { source.new ≡ pick (eqb result 0) (sourcesOf plan tables.now mask start frame.now source.old) source.old }
-    ensures answers_after { answers.new ≡ pick (eqb result 0) (answersOf plan tables.now mask start frame.now) answers.old }
-    ensures stuff_after { stuff.new ≡ pick (eqb result 0) (stuffsOf plan tables.now mask start frame.now) stuff.old }
-    ensures positions_after { positions.new ≡ pick (eqb result 0) (positionsOf plan tables.now mask start frame.now) positions.old }
+    ensures value { result ≡ read_frame_number plan mask start tables.now (length source.old) (length frame.now) (length answers.old) (length stuff.old) (length positions.old) }
+    ensures source_after { source.new ≡ pick (eqb result 0) (sources_of plan tables.now mask start frame.now source.old) source.old }
+    ensures answers_after { answers.new ≡ pick (eqb result 0) (answers_of plan tables.now mask start frame.now) answers.old }
+    ensures stuff_after { stuff.new ≡ pick (eqb result 0) (stuffs_of plan tables.now mask start frame.now) stuff.old }
+    ensures positions_after { positions.new ≡ pick (eqb result 0) (positions_of plan tables.now mask start frame.now) positions.old }
 {
     frame_reader::read_frame(
         plan, mask, start, tables, frame, source, answers, stuff, positions,

@@ -1,8 +1,8 @@
 // Signal points of labels.
 ghost use Rattle.std.specs.Prelude.{◌≡◌};
-ghost use Rattle.points.specs.Answers.{pointValues, PointsMade};
-ghost use Rattle.points.specs.Numbers.{pointNumber, arrangedNumber, stepAnswer};
-ghost use Rattle.points.specs.Points.{point_of, arrangedOf};
+ghost use Rattle.points.specs.Answers.{point_values, PointsMade};
+ghost use Rattle.points.specs.Numbers.{point_number, arranged_number, step_answer};
+ghost use Rattle.points.specs.Points.{point_of, arranged_of};
 
 use points::{PointValues, StepAnswer};
 
@@ -14,7 +14,7 @@ pub extern "C" fn s3_point(
     in_phase: &[f32],
     quadrature: &[f32],
 ) -> PointValues
-    ensures { result ≡ pointValues (pointNumber modulation label symbol in_phase.now quadrature.now) (point_of modulation symbol in_phase.now quadrature.now label) }
+    ensures { result ≡ point_values (point_number modulation label symbol in_phase.now quadrature.now) (point_of modulation symbol in_phase.now quadrature.now label) }
 {
     points::point_values(modulation, label, symbol, in_phase, quadrature)
 }
@@ -29,7 +29,7 @@ pub extern "C" fn s3_arranged_point(
     mask: u32,
     register: u32,
 ) -> PointValues
-    ensures { result ≡ pointValues (arrangedNumber modulation label symbol in_phase.now quadrature.now mask register) (arrangedOf register (point_of modulation symbol in_phase.now quadrature.now label)) }
+    ensures { result ≡ point_values (arranged_number modulation label symbol in_phase.now quadrature.now mask register) (arranged_of register (point_of modulation symbol in_phase.now quadrature.now label)) }
 {
     points::arranged_values(
         modulation, label, symbol, in_phase, quadrature, mask, register,
@@ -38,7 +38,7 @@ pub extern "C" fn s3_arranged_point(
 
 #[unsafe(no_mangle)]
 pub extern "C" fn s3_arranged_step(mask: u32, register: u32) -> StepAnswer
-    ensures { result ≡ stepAnswer mask register }
+    ensures { result ≡ step_answer mask register }
 {
     points::arranged_step(mask, register)
 }

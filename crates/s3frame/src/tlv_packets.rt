@@ -1,6 +1,6 @@
 // Slots filled with TLV packets, and read.
 ghost use Rattle.std.specs.Prelude.{◌≡◌};
-ghost use Rattle.tlv.specs.Calls.{fillAnswer, fillSlots, fillBegins, readAnswer, readPackets};
+ghost use Rattle.tlv.specs.Calls.{fill_answer, fill_slots, fill_begins, read_answer, read_packets};
 
 use tlv::{FillAnswer, ReadAnswer};
 
@@ -13,9 +13,9 @@ pub extern "C" fn s3_tlv_fill(
     slots: &mut [u8],
     begins: &mut [u16],
 ) -> FillAnswer
-    ensures value { result ≡ fillAnswer rate packets.now taken owed slots.old begins.old }
-    ensures slots_after { slots.new ≡ fillSlots rate packets.now taken owed slots.old begins.old }
-    ensures begins_after { begins.new ≡ fillBegins rate packets.now taken owed slots.old begins.old }
+    ensures value { result ≡ fill_answer rate packets.now taken owed slots.old begins.old }
+    ensures slots_after { slots.new ≡ fill_slots rate packets.now taken owed slots.old begins.old }
+    ensures begins_after { begins.new ≡ fill_begins rate packets.now taken owed slots.old begins.old }
 {
     tlv_fill::fill(rate, packets, taken, owed, slots, begins)
 }
@@ -29,8 +29,8 @@ pub extern "C" fn s3_tlv_read(
     first: u32,
     packets: &mut [u8],
 ) -> ReadAnswer
-    ensures value { result ≡ readAnswer rate slots.now begins.now lost.now first packets.old }
-    ensures packets_after { packets.new ≡ readPackets rate slots.now begins.now lost.now first packets.old }
+    ensures value { result ≡ read_answer rate slots.now begins.now lost.now first packets.old }
+    ensures packets_after { packets.new ≡ read_packets rate slots.now begins.now lost.now first packets.old }
 {
     tlv_read::read(rate, slots, begins, lost, first, packets)
 }

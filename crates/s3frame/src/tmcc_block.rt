@@ -2,7 +2,7 @@
 ghost use Rattle.std.specs.Prelude.{◌≡◌};
 ghost use Rattle.refusal.specs.Answers.{Answered};
 ghost use Rattle.tmcc.specs.Blocks.{block_of, source_of};
-ghost use Rattle.tmcc.specs.Calls.{codeNumber, readNumber, readAnswer};
+ghost use Rattle.tmcc.specs.Calls.{code_number, read_number, read_answer};
 
 use codeword::WordAnswer;
 
@@ -14,7 +14,7 @@ pub extern "C" fn s3_code_tmcc(
     source: &[u8],
     block: &mut [u8],
 ) -> u8
-    ensures { Answered (codeNumber mask start table.now source.now block.old) (block_of table.now mask start source.now) block.old result block.new }
+    ensures { Answered (code_number mask start table.now source.now block.old) (block_of table.now mask start source.now) block.old result block.new }
 {
     tmcc_coder::code_block(mask, start, table, source, block)
 }
@@ -27,8 +27,8 @@ pub extern "C" fn s3_read_tmcc(
     block: &[u8],
     source: &mut [u8],
 ) -> WordAnswer
-    ensures value { result ≡ readAnswer mask start table.now block.now source.old }
-    ensures answered { Answered (readNumber mask start table.now block.now source.old) (source_of mask start block.now) source.old result.number source.new }
+    ensures value { result ≡ read_answer mask start table.now block.now source.old }
+    ensures answered { Answered (read_number mask start table.now block.now source.old) (source_of mask start block.now) source.old result.number source.new }
 {
     tmcc_reader::read_block(mask, start, table, block, source)
 }

@@ -2,8 +2,8 @@
 -- has.
 use Rattle.std.specs.Prelude.{List, [], ◌∷◌, ℕ}
 
-abbrev pub settingOctets : ℕ
-settingOctets = 512
+abbrev pub setting_octets : ℕ
+setting_octets = 512
 
 pub record Field : Type 0 where
   pub at : ℕ
@@ -18,10 +18,10 @@ pub record Layout : Type 0 where
   pub edition : Field
   pub count : Field
   pub groups : Field
-  pub slot-mask : Field
-  pub slot-start : Field
-  pub tmcc-mask : Field
-  pub tmcc-start : Field
+  pub slot_mask : Field
+  pub slot_start : Field
+  pub tmcc_mask : Field
+  pub tmcc_start : Field
   pub zeros : Field
   pub sum : Field
 
@@ -34,10 +34,10 @@ layout e =
       edition = field 4 1;
       count = field 5 1;
       groups = field 6 24;
-      slot-mask = field 30 4;
-      slot-start = field 34 4;
-      tmcc-mask = field 38 4;
-      tmcc-start = field 42 4;
+      slot_mask = field 30 4;
+      slot_start = field 34 4;
+      tmcc_mask = field 38 4;
+      tmcc_start = field 42 4;
       zeros = field 46 464;
       sum = field 510 2;
     }

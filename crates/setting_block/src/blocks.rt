@@ -2,11 +2,11 @@
 ghost use Rattle.std.specs.Prelude.{◌++◌, ◌≡◌, length};
 ghost use Rattle.lists.specs.Choice.{pick, and_then};
 ghost use Rattle.refusal.specs.Numbers.{REGISTER};
-ghost use Rattle.setting_block.specs.Layout.{settingOctets, edition};
-ghost use Rattle.setting_block.specs.Blocks.{planOctets, headOctets, registerOctets, body, block_of, planIn, registersIn, unusedIn, blockOk, registersOk, settingNumber, blockNumber, noRegisters, answer};
-ghost use Rattle.octet_numbers.specs.Numbers.{bigEndian, allZero};
+ghost use Rattle.setting_block.specs.Layout.{setting_octets, edition};
+ghost use Rattle.setting_block.specs.Blocks.{plan_octets, head_octets, register_octets, body, block_of, plan_in, registers_in, unused_in, block_ok, registers_ok, setting_number, block_number, no_registers, answer};
+ghost use Rattle.octet_numbers.specs.Numbers.{big_endian, all_zero};
 ghost use Rattle.setting_block.specs.Needs.{Block, Room};
-ghost use Rattle.plan.specs.Records.{noPlan};
+ghost use Rattle.plan.specs.Records.{no_plan};
 
 use crate::{Register, Registers, SETTING_OCTETS, SettingsAnswer};
 use octet_numbers::{all_zero, number_of, put_number, sum_of};
@@ -38,7 +38,7 @@ const SUM: usize = 510;
 
 // The answer of a refusal.
 pub fn no_settings(number: u8) -> SettingsAnswer
-    ensures { result ≡ record { number = number; plan = noPlan; registers = noRegisters } }
+    ensures { result ≡ record { number = number; plan = no_plan; registers = no_registers } }
 {
     let none = Register { mask: 0, start: 0 };
     let registers = Registers {
@@ -55,7 +55,7 @@ pub fn no_settings(number: u8) -> SettingsAnswer
 // Whether the groups behind the count are zeros.
 fn unused_zero(block: &[u8]) -> bool
     requires { Block block.now }
-    ensures { result ≡ allZero (unusedIn edition block.now) }
+    ensures { result ≡ all_zero (unused_in edition block.now) }
 {
     let groups = &block[GROUPS..SLOT_MASK];
     let count = number_of(&block[COUNT..GROUPS]) as usize;
@@ -69,7 +69,7 @@ fn unused_zero(block: &[u8]) -> bool
 // Whether mark, edition, fillers and sum are right.
 fn block_ok(block: &[u8]) -> bool
     requires { Block block.now }
-    ensures { result ≡ blockOk edition block.now }
+    ensures { result ≡ block_ok edition block.now }
 {
     if bits::same_run(&block[0..EDITION_AT], &MARK) {
         if number_of(&block[EDITION_AT..COUNT]) == EDITION {
@@ -86,7 +86,7 @@ fn block_ok(block: &[u8]) -> bool
 
 fn plan_in(block: &[u8]) -> Plan
     requires { Block block.now }
-    ensures { result ≡ planIn edition block.now }
+    ensures { result ≡ plan_in edition block.now }
 {
     let count = number_of(&block[COUNT..GROUPS]) as u16;
     plan_octets::of_octets(count, &block[GROUPS..SLOT_MASK])
@@ -94,7 +94,7 @@ fn plan_in(block: &[u8]) -> Plan
 
 fn registers_in(block: &[u8]) -> Registers
     requires { Block block.now }
-    ensures { result ≡ registersIn edition block.now }
+    ensures { result ≡ registers_in edition block.now }
 {
     let slots = Register {
         mask: number_of(&block[SLOT_MASK..SLOT_START]),
@@ -118,7 +118,7 @@ pub fn first_refusal(a: u8, b: u8) -> u8
 }
 
 fn registers_ok(registers: Registers) -> bool
-    ensures { result ≡ registersOk registers }
+    ensures { result ≡ registers_ok registers }
 {
     let slots = registers.slots;
     let tmcc = registers.tmcc;
@@ -129,7 +129,7 @@ fn registers_ok(registers: Registers) -> bool
 }
 
 fn registers_number(registers: Registers) -> u8
-    ensures { result ≡ pick (registersOk registers) 0 REGISTER }
+    ensures { result ≡ pick (registers_ok registers) 0 REGISTER }
 {
     if registers_ok(registers) {
         return 0;
@@ -139,7 +139,7 @@ fn registers_number(registers: Registers) -> u8
 
 // The refusal of plan or registers, or 0.
 pub fn setting_number(plan: Plan, registers: Registers) -> u8
-    ensures { result ≡ settingNumber plan registers }
+    ensures { result ≡ setting_number plan registers }
 {
     let of_plan = plan::plan_number(plan);
     let of_registers = registers_number(registers);
@@ -149,7 +149,7 @@ pub fn setting_number(plan: Plan, registers: Registers) -> u8
 // Reads a block.
 pub fn read_block(block: &[u8]) -> SettingsAnswer
     requires { Block block.now }
-    ensures { result ≡ answer (blockNumber edition block.now) (planIn edition block.now) (registersIn edition block.now) }
+    ensures { result ≡ answer (block_number edition block.now) (plan_in edition block.now) (registers_in edition block.now) }
 {
     if block_ok(block) {
         let plan = plan_in(block);
@@ -170,7 +170,7 @@ pub fn read_block(block: &[u8]) -> SettingsAnswer
 // Puts count and groups.
 fn put_plan(plan: Plan, octets: &mut [u8])
     requires { Room plan 25 octets.old }
-    ensures { octets.new ≡ planOctets edition plan }
+    ensures { octets.new ≡ plan_octets edition plan }
 {
     put_number(plan.count as u32, &mut octets[0..1]);
     plan_octets::put_groups(plan, &mut octets[1..25]);
@@ -179,7 +179,7 @@ fn put_plan(plan: Plan, octets: &mut [u8])
 // Puts mark, edition and plan.
 fn put_head(plan: Plan, octets: &mut [u8])
     requires { Room plan 30 octets.old }
-    ensures { octets.new ≡ headOctets edition plan }
+    ensures { octets.new ≡ head_octets edition plan }
 {
     bits::copy(&MARK, &mut octets[0..EDITION_AT]);
     put_number(EDITION, &mut octets[EDITION_AT..COUNT]);
@@ -189,7 +189,7 @@ fn put_head(plan: Plan, octets: &mut [u8])
 // Puts a register's mask and start.
 fn put_register(register: Register, octets: &mut [u8])
     requires { length octets.old ≡ 8 }
-    ensures { octets.new ≡ bigEndian 4 register.mask ++ bigEndian 4 register.start }
+    ensures { octets.new ≡ big_endian 4 register.mask ++ big_endian 4 register.start }
 {
     put_number(register.mask, &mut octets[0..4]);
     put_number(register.start, &mut octets[4..8]);
@@ -197,7 +197,7 @@ fn put_register(register: Register, octets: &mut [u8])
 
 fn put_registers(registers: Registers, octets: &mut [u8])
     requires { length octets.old ≡ 16 }
-    ensures { octets.new ≡ registerOctets edition registers }
+    ensures { octets.new ≡ register_octets edition registers }
 {
     put_register(registers.slots, &mut octets[0..8]);
     put_register(registers.tmcc, &mut octets[8..16]);
@@ -215,7 +215,7 @@ fn put_body(plan: Plan, registers: Registers, octets: &mut [u8])
 
 // Puts the block of plan and registers.
 pub fn put_block(plan: Plan, registers: Registers, block: &mut [u8])
-    requires { Room plan settingOctets block.old }
+    requires { Room plan setting_octets block.old }
     ensures { block.new ≡ block_of edition plan registers }
 {
     put_body(plan, registers, &mut block[0..SUM]);

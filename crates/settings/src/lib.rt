@@ -1,7 +1,7 @@
 // Settings that a card keeps in blocks: plan and registers, read or replaced by the number of their block.
 ghost use Rattle.std.specs.Prelude.{◌≡◌, length};
 ghost use Rattle.refusal.specs.Answers.{Answered};
-ghost use Rattle.settings.specs.Cards.{cardOk, cardNumber, readAnswer, replaceNumber, replaced};
+ghost use Rattle.settings.specs.Cards.{card_ok, card_number, read_answer, replace_number, replaced};
 
 use plan::Plan;
 use setting_block::{Registers, SETTING_OCTETS, SettingsAnswer};
@@ -11,7 +11,7 @@ pub const MOST_SETTINGS: usize = 64;
 
 // Whether so many octets are a card's.
 fn card_ok(octets: usize) -> bool
-    ensures { result ≡ cardOk octets }
+    ensures { result ≡ card_ok octets }
 {
     if octets % SETTING_OCTETS == 0 {
         return octets / SETTING_OCTETS <= MOST_SETTINGS;
@@ -21,7 +21,7 @@ fn card_ok(octets: usize) -> bool
 
 // The refusal of a card's length, or of a block's number, or 0.
 fn card_number(octets: usize, number: usize) -> u8
-    ensures { result ≡ cardNumber octets number }
+    ensures { result ≡ card_number octets number }
 {
     if card_ok(octets) {
         if number < octets / SETTING_OCTETS {
@@ -34,7 +34,7 @@ fn card_number(octets: usize, number: usize) -> u8
 
 // Reads a block.
 pub fn read_settings(card: &[u8], number: usize) -> SettingsAnswer
-    ensures { result ≡ readAnswer card.now number }
+    ensures { result ≡ read_answer card.now number }
 {
     let refused = card_number(card.len(), number);
     if refused != 0 {
@@ -46,7 +46,7 @@ pub fn read_settings(card: &[u8], number: usize) -> SettingsAnswer
 }
 
 fn replace_number(octets: usize, number: usize, plan: Plan, registers: Registers) -> u8
-    ensures { result ≡ replaceNumber octets number plan registers }
+    ensures { result ≡ replace_number octets number plan registers }
 {
     let of_card = card_number(octets, number);
     let of_setting = setting_block::setting_number(plan, registers);
@@ -55,7 +55,7 @@ fn replace_number(octets: usize, number: usize, plan: Plan, registers: Registers
 
 // Replaces a block, whatever it holds.
 pub fn replace_settings(card: &mut [u8], number: usize, plan: Plan, registers: Registers) -> u8
-    ensures { Answered (replaceNumber (length card.old) number plan registers) (replaced card.old number plan registers) card.old result card.new }
+    ensures { Answered (replace_number (length card.old) number plan registers) (replaced card.old number plan registers) card.old result card.new }
 {
     let refused = replace_number(card.len(), number, plan, registers);
     if refused != 0 {

@@ -2,23 +2,23 @@
 use Rattle.std.specs.Prelude.{refl, List, ℕ}
 use Rattle.plan.specs.declared.FrameState.{FrameState}
 use Rattle.plan.specs.Rates.{rows_of}
-use Rattle.codeword.specs.AnswerLaws.{position-told}
-use Rattle.codeword.specs.Reading.{PositionTold, positionWith}
-use Rattle.codeword.specs.ReadingLaws.{word-parity}
-use Rattle.slot.specs.Slots.{slotShape}
-use Rattle.slot.specs.Reading.{receivedNumber, failingIn, checkedNumber}
-use Rattle.slot.specs.Calls.{rows_at, readNumber, readAnswer, checkNumber, checkAnswer}
-use Rattle.slot.specs.CallLaws.{slot-earlier, form-earlier}
+use Rattle.codeword.specs.AnswerLaws.{position_told}
+use Rattle.codeword.specs.Reading.{PositionTold, position_with}
+use Rattle.codeword.specs.ReadingLaws.{word_parity}
+use Rattle.slot.specs.Slots.{slot_shape}
+use Rattle.slot.specs.Reading.{received_number, failing_in, checked_number}
+use Rattle.slot.specs.Calls.{rows_at, read_number, read_answer, check_number, check_answer}
+use Rattle.slot.specs.CallLaws.{slot_earlier, form_earlier}
 
-pub received-told : (R : ℕ) (t : List ℕ) (mask r : ℕ) (c : List ℕ) → PositionTold (slotShape R) t c (receivedNumber R t mask r c) (positionWith (receivedNumber R t mask r c) (failingIn R t c))
-unfolding receivedNumber failingIn
-received-told R t mask r c = position-told (slotShape R) t c 0 _ (λ m. refl) (word-parity (slotShape R) t mask r c)
+pub received_told : (R : ℕ) (t : List ℕ) (mask r : ℕ) (c : List ℕ) → PositionTold (slot_shape R) t c (received_number R t mask r c) (position_with (received_number R t mask r c) (failing_in R t c))
+unfolding received_number failing_in
+received_told R t mask r c = position_told (slot_shape R) t c 0 _ (λ m. refl) (word_parity (slot_shape R) t mask r c)
 
-pub read_told : (s : FrameState) (t coded source : List ℕ) → PositionTold (slotShape (rows_at s)) t coded (readAnswer s t coded source).number (readAnswer s t coded source).position
-unfolding readAnswer readNumber receivedNumber failingIn
+pub read_told : (s : FrameState) (t coded source : List ℕ) → PositionTold (slot_shape (rows_at s)) t coded (read_answer s t coded source).number (read_answer s t coded source).position
+unfolding read_answer read_number received_number failing_in
 read_told s t coded source =
-    position-told (slotShape (rows_at s)) t coded _ _ (slot-earlier s t source coded) (word-parity (slotShape (rows_at s)) t s.mask s.register coded)
+    position_told (slot_shape (rows_at s)) t coded _ _ (slot_earlier s t source coded) (word_parity (slot_shape (rows_at s)) t s.mask s.register coded)
 
-pub check-told : (rate : ℕ) (t coded : List ℕ) → PositionTold (slotShape (rows_of rate)) t coded (checkAnswer rate t coded).number (checkAnswer rate t coded).position
-unfolding checkAnswer checkNumber checkedNumber failingIn
-check-told rate t coded = position-told (slotShape (rows_of rate)) t coded _ _ (form-earlier rate t coded) (λ e. e)
+pub check_told : (rate : ℕ) (t coded : List ℕ) → PositionTold (slot_shape (rows_of rate)) t coded (check_answer rate t coded).number (check_answer rate t coded).position
+unfolding check_answer check_number checked_number failing_in
+check_told rate t coded = position_told (slot_shape (rows_of rate)) t coded _ _ (form_earlier rate t coded) (λ e. e)

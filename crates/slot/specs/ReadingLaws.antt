@@ -8,49 +8,49 @@ use Rattle.refusal.specs.Numbers.{PARITY, BCH}
 use Rattle.bits.specs.Digits.{digits, number}
 use Rattle.bits.specs.DigitLaws.{number_lt, digits_number}
 use Rattle.bits.specs.Octets.{bits_of}
-use Rattle.bits.specs.OctetLaws.{length-octetsOf, octetsOf-octets, bits-octets}
+use Rattle.bits.specs.OctetLaws.{length_octets_of, octets_of_octets, bits_octets}
 use Rattle.parity_table.specs.Tables.{positions}
 use Rattle.plan.specs.RateLaws.{Rows}
-use Rattle.plan.specs.Sizes.{slotOctets}
-use Rattle.codeword.specs.Reading.{takenOff, messageIn, tailIn, wrongPosition, parityNumber, bchRight, checksNumber, wordNumber, Good}
-use Rattle.codeword.specs.ReadingLaws.{word_good, messageIn-bits, tailIn-bits, messageIn-long, tailIn-long}
-use Rattle.slot.specs.Slots.{sourceOctets, stuffBits, slotShape}
+use Rattle.plan.specs.Sizes.{slot_octets}
+use Rattle.codeword.specs.Reading.{taken_off, message_in, tail_in, wrong_position, parity_number, bch_right, checks_number, word_number, Good}
+use Rattle.codeword.specs.ReadingLaws.{word_good, message_in_bits, tail_in_bits, message_in_long, tail_in_long}
+use Rattle.slot.specs.Slots.{source_octets, stuff_bits, slot_shape}
 use Rattle.slot.specs.SlotLaws.{sizes, fits, Source}
-use Rattle.slot.specs.Reading.{receivedNumber, stuffIn, stuffOnes, source_of, MovesOn}
+use Rattle.slot.specs.Reading.{received_number, stuff_in, stuff_ones, source_of, MovesOn}
 
 -- six ones are the number 63
-ones-number : number 6 stuffBits ≡ 63
+ones_number : number 6 stuff_bits ≡ 63
 unfolding number
-ones-number = refl
+ones_number = refl
 
-ones-digits : digits 6 63 ≡ stuffBits
+ones_digits : digits 6 63 ≡ stuff_bits
 unfolding digits
-ones-digits = refl
+ones_digits = refl
 
 -- the stuff bits of a received slot: six bits, ..
 module _ (R mask r : ℕ) (c : List ℕ) where
-  pub stuff-below : stuffIn R mask r c < 64
-  unfolding stuffIn
-  stuff-below = number_lt 6 (tailIn (slotShape R) (takenOff (slotShape R) mask r c)) (tailIn-bits (slotShape R) c mask r)
+  pub stuff_below : stuff_in R mask r c < 64
+  unfolding stuff_in
+  stuff_below = number_lt 6 (tail_in (slot_shape R) (taken_off (slot_shape R) mask r c)) (tail_in_bits (slot_shape R) c mask r)
 
-  module _ (w : Rows R) (l : length c ≡ slotOctets) where
+  module _ (w : Rows R) (l : length c ≡ slot_octets) where
     -- .. which are the digits of their number, first bit the highest
-    pub stuff-digits : digits 6 (stuffIn R mask r c) ≡ tailIn (slotShape R) (takenOff (slotShape R) mask r c)
-    unfolding stuffIn
-    stuff-digits =
-        let e = tailIn (slotShape R) (takenOff (slotShape R) mask r c) in
-        let n = tailIn-long (slotShape R) c (fits R w) l mask r in
-        digits_number 6 e (omega (arith, n)) (tailIn-bits (slotShape R) c mask r) ∙ take_all 6 e (omega (arith, n))
+    pub stuff_digits : digits 6 (stuff_in R mask r c) ≡ tail_in (slot_shape R) (taken_off (slot_shape R) mask r c)
+    unfolding stuff_in
+    stuff_digits =
+        let e = tail_in (slot_shape R) (taken_off (slot_shape R) mask r c) in
+        let n = tail_in_long (slot_shape R) c (fits R w) l mask r in
+        digits_number 6 e (omega (arith, n)) (tail_in_bits (slot_shape R) c mask r) ∙ take_all 6 e (omega (arith, n))
 
     -- they are six ones exactly when that is 63
-    pub stuff-ones : (tailIn (slotShape R) (takenOff (slotShape R) mask r c) ≡ stuffBits) ↔ (stuffIn R mask r c ≡ stuffOnes)
-    unfolding stuffIn
-    stuff-ones = ((λ e. ap (number 6) e ∙ ones-number), (λ e. sym stuff-digits ∙ ap (digits 6) e ∙ ones-digits))
+    pub stuff_ones_law : (tail_in (slot_shape R) (taken_off (slot_shape R) mask r c) ≡ stuff_bits) ↔ (stuff_in R mask r c ≡ stuff_ones)
+    unfolding stuff_in
+    stuff_ones_law = ((λ e. ap (number 6) e ∙ ones_number), (λ e. sym stuff_digits ∙ ap (digits 6) e ∙ ones_digits))
 
 -- reading answers 0 exactly when both checks hold
-pub received-good : (R : ℕ) (t : List ℕ) (mask r : ℕ) (c : List ℕ) → Rows R → length c ≡ slotOctets → (receivedNumber R t mask r c ≡ 0) ↔ Good (slotShape R) t mask r c
-unfolding receivedNumber
-received-good R t mask r c w l = word_good (slotShape R) t mask r c (fits R w) l
+pub received_good : (R : ℕ) (t : List ℕ) (mask r : ℕ) (c : List ℕ) → Rows R → length c ≡ slot_octets → (received_number R t mask r c ≡ 0) ↔ Good (slot_shape R) t mask r c
+unfolding received_number
+received_good R t mask r c w l = word_good (slot_shape R) t mask r c (fits R w) l
 
 one_of_three : (p b : Bool) → MovesOn (and_then (pick p 0 PARITY) (pick b 0 BCH))
 one_of_three false b = inr (inl refl)
@@ -58,21 +58,21 @@ one_of_three true false = inr (inr refl)
 one_of_three true true = inl refl
 
 -- a received slot has no other
-pub received-numbers : (R : ℕ) (t : List ℕ) (mask r : ℕ) (c : List ℕ) → MovesOn (receivedNumber R t mask r c)
-unfolding receivedNumber wordNumber checksNumber parityNumber
-received-numbers R t mask r c =
-    let F = slotShape R in
-    one_of_three (eqb (wrongPosition F t c) (positions R)) (bchRight F (takenOff F mask r c))
+pub received_numbers : (R : ℕ) (t : List ℕ) (mask r : ℕ) (c : List ℕ) → MovesOn (received_number R t mask r c)
+unfolding received_number word_number checks_number parity_number
+received_numbers R t mask r c =
+    let F = slot_shape R in
+    one_of_three (eqb (wrong_position F t c) (positions R)) (bch_right F (taken_off F mask r c))
 
 -- header and data octets of a received slot
-pub sourceOf-source : (R mask r : ℕ) (c : List ℕ) → Source R (source_of R mask r c)
+pub source_of_source : (R mask r : ℕ) (c : List ℕ) → Source R (source_of R mask r c)
 unfolding source_of
-sourceOf-source R mask r c =
-    record { octets = octetsOf-octets (sourceOctets R) _ (messageIn-bits (slotShape R) c mask r); long = length-octetsOf (sourceOctets R) _ }
+source_of_source R mask r c =
+    record { octets = octets_of_octets (source_octets R) _ (message_in_bits (slot_shape R) c mask r); long = length_octets_of (source_octets R) _ }
 
 -- and their bits
-pub sourceOf-bits : (R mask r : ℕ) (c : List ℕ) → Rows R → length c ≡ slotOctets → bits_of (source_of R mask r c) ≡ messageIn (slotShape R) (takenOff (slotShape R) mask r c)
+pub source_of_bits : (R mask r : ℕ) (c : List ℕ) → Rows R → length c ≡ slot_octets → bits_of (source_of R mask r c) ≡ message_in (slot_shape R) (taken_off (slot_shape R) mask r c)
 unfolding source_of
-sourceOf-bits R mask r c w l =
-    let F = slotShape R in
-    bits-octets (sourceOctets R) (messageIn F (takenOff F mask r c)) (messageIn-long F c (fits R w) l mask r ∙ (sizes R w).source) (messageIn-bits F c mask r)
+source_of_bits R mask r c w l =
+    let F = slot_shape R in
+    bits_octets (source_octets R) (message_in F (taken_off F mask r c)) (message_in_long F c (fits R w) l mask r ∙ (sizes R w).source) (message_in_bits F c mask r)

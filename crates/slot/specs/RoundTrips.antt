@@ -5,153 +5,153 @@ use Rattle.std.specs.Prelude.{◌≡◌, List, ◌↔◌, ℕ, length}
 use Rattle.std.proofs.Common.{sym, ap, ◌∙◌, inl, arith, eq-eqb}
 use Rattle.lists.specs.Runs.{Octets}
 use Rattle.lists.specs.Choice.{pick, and_then}
-use Rattle.lists.specs.ChoiceLaws.{then-zero, then_next, then-both}
+use Rattle.lists.specs.ChoiceLaws.{then_zero, then_next, then_both}
 use Rattle.bits.specs.Octets.{bits_of}
-use Rattle.bits.specs.OctetLaws.{octets-bits}
-use Rattle.dispersal.specs.RegisterLaws.{after-ok}
+use Rattle.bits.specs.OctetLaws.{octets_bits}
+use Rattle.dispersal.specs.RegisterLaws.{after_ok}
 use Rattle.plan.specs.RateLaws.{Rows}
 use Rattle.plan.specs.declared.FrameState.{FrameState}
-use Rattle.plan.specs.Sizes.{slotWidth}
-use Rattle.plan.specs.States.{soundNumber}
-use Rattle.plan.specs.StateLaws.{sound-yes, moved-sound}
-use Rattle.codeword.specs.CallLaws.{lent-lengths}
-use Rattle.codeword.specs.AnswerLaws.{earlier-none}
+use Rattle.plan.specs.Sizes.{slot_width}
+use Rattle.plan.specs.States.{sound_number}
+use Rattle.plan.specs.StateLaws.{sound_yes, moved_sound}
+use Rattle.codeword.specs.CallLaws.{lent_lengths}
+use Rattle.codeword.specs.AnswerLaws.{earlier_none}
 use Rattle.codeword.specs.WordLaws.{Message}
-use Rattle.codeword.specs.Reading.{takenOff, messageIn, Good}
+use Rattle.codeword.specs.Reading.{taken_off, message_in, Good}
 use Rattle.codeword.specs.ReadingLaws.{Received}
-use Rattle.codeword.specs.RoundTrips.{coded-read as word_back, coded-again as word-again, coded-same as IsWord-same}
-use Rattle.slot.specs.Slots.{sourceOctets, coveredBits, stuffBits, slotShape, slot_of, registerAfter}
-use Rattle.slot.specs.SlotLaws.{Source, fits, message, length-slotOf}
-use Rattle.slot.specs.Reading.{receivedNumber, stuffIn, stuffOnes, source_of, MovesOn}
-use Rattle.slot.specs.ReadingLaws.{stuff-ones, received-numbers, received-good, sourceOf-source, sourceOf-bits}
-use Rattle.slot.specs.Calls.{rows_at, dataNumber, slotNumber, nextState, codeAnswer, codeArea, readNumber, readAnswer, readArea, Reads, CodedAgain, CodedBack}
-use Rattle.slot.specs.CallLaws.{accepted-slot, slot-earlier}
+use Rattle.codeword.specs.RoundTrips.{coded_read as word_back, coded_again as word-again, coded_same as IsWord-same}
+use Rattle.slot.specs.Slots.{source_octets, covered_bits, stuff_bits, slot_shape, slot_of, register_after}
+use Rattle.slot.specs.SlotLaws.{Source, fits, message, length_slot_of}
+use Rattle.slot.specs.Reading.{received_number, stuff_in, stuff_ones, source_of, MovesOn}
+use Rattle.slot.specs.ReadingLaws.{stuff_ones_law, received_numbers, received_good, source_of_source, source_of_bits}
+use Rattle.slot.specs.Calls.{rows_at, data_number, slot_number, next_state, code_answer, code_area, read_number, read_answer, read_area, Reads, CodedAgain, CodedBack}
+use Rattle.slot.specs.CallLaws.{accepted_slot, slot_earlier}
 
 -- that reading the slot c answers 0 and gives these header and data octets, and stuff bits of ones
 pub record ReadsAs (R : ℕ) (t : List ℕ) (mask r : ℕ) (c octets : List ℕ) : Type 0 where
-  pub number : receivedNumber R t mask r c ≡ 0
+  pub number : received_number R t mask r c ≡ 0
   pub source : source_of R mask r c ≡ octets
-  pub stuff : stuffIn R mask r c ≡ stuffOnes
+  pub stuff : stuff_in R mask r c ≡ stuff_ones
 
 -- coding and then reading returns header and data
-pub coded-read : (R : ℕ) (t : List ℕ) (mask r : ℕ) (source : List ℕ) → Rows R → Source R source → ReadsAs R t mask r (slot_of R t mask r source) source
-unfolding receivedNumber source_of slot_of
-coded-read R t mask r source w o =
-    let F = slotShape R in
+pub coded_read : (R : ℕ) (t : List ℕ) (mask r : ℕ) (source : List ℕ) → Rows R → Source R source → ReadsAs R t mask r (slot_of R t mask r source) source
+unfolding received_number source_of slot_of
+coded_read R t mask r source w o =
+    let F = slot_shape R in
     let c = slot_of R t mask r source in
-    let long = length-slotOf R t mask r source in
-    let b = word_back F t mask r (bits_of source) stuffBits (fits R w) (message R source w o.long) in
+    let long = length_slot_of R t mask r source in
+    let b = word_back F t mask r (bits_of source) stuff_bits (fits R w) (message R source w o.long) in
     record {
       number = b.number;
-      source = rw b.message (octets-bits (sourceOctets R) source o.long o.octets);
-      stuff = (stuff-ones R mask r c w long).0 b.tail;
+      source = rw b.message (octets_bits (source_octets R) source o.long o.octets);
+      stuff = (stuff_ones_law R mask r c w long).0 b.tail;
     }
 
 -- an accepted slot coded again at the same register, from the header and data that were read
-pub read-coded : (R : ℕ) (t : List ℕ) (mask r : ℕ) (c : List ℕ) → Rows R → Received (slotShape R) c → receivedNumber R t mask r c ≡ 0
-    → CodedAgain R t mask r (stuffIn R mask r c) c (slot_of R t mask r (source_of R mask r c))
-unfolding receivedNumber slot_of
-read-coded R t mask r c w o h =
-    let F = slotShape R in
-    let e = sourceOf-bits R mask r c w o.long in
-    let m : Message F (messageIn F (takenOff F mask r c)) stuffBits = rw e at (message R (source_of R mask r c) w (sourceOf-source R mask r c).long) in
-    let a = IsWord-same F t mask r c (fits R w) o h stuffBits m in
-    let b = stuff-ones R mask r c w o.long in
-    rw e (record { same = ((λ d. b.0 (a.0 d)), (λ d. a.1 (b.1 d))); anew = word-again F t mask r c (fits R w) o h stuffBits })
+pub read_coded : (R : ℕ) (t : List ℕ) (mask r : ℕ) (c : List ℕ) → Rows R → Received (slot_shape R) c → received_number R t mask r c ≡ 0
+    → CodedAgain R t mask r (stuff_in R mask r c) c (slot_of R t mask r (source_of R mask r c))
+unfolding received_number slot_of
+read_coded R t mask r c w o h =
+    let F = slot_shape R in
+    let e = source_of_bits R mask r c w o.long in
+    let m : Message F (message_in F (taken_off F mask r c)) stuff_bits = rw e at (message R (source_of R mask r c) w (source_of_source R mask r c).long) in
+    let a = IsWord-same F t mask r c (fits R w) o h stuff_bits m in
+    let b = stuff_ones_law R mask r c w o.long in
+    rw e (record { same = ((λ d. b.0 (a.0 d)), (λ d. a.1 (b.1 d))); anew = word-again F t mask r c (fits R w) o h stuff_bits })
 
 -- of the lent areas only the lengths count for the number of a call
-pub slotNumber-lengths : (s : FrameState) (t source coded source' coded' : List ℕ) → length source ≡ length source' → length coded ≡ length coded'
-    → slotNumber s t source coded ≡ slotNumber s t source' coded'
-unfolding slotNumber
-slotNumber-lengths s t source coded source' coded' l m =
-    ap (and_then (dataNumber s)) (lent-lengths (slotShape (rows_at s)) (sourceOctets (rows_at s)) t source coded source' coded' l m)
+pub slot_number_lengths : (s : FrameState) (t source coded source' coded' : List ℕ) → length source ≡ length source' → length coded ≡ length coded'
+    → slot_number s t source coded ≡ slot_number s t source' coded'
+unfolding slot_number
+slot_number_lengths s t source coded source' coded' l m =
+    ap (and_then (data_number s)) (lent_lengths (slot_shape (rows_at s)) (source_octets (rows_at s)) t source coded source' coded' l m)
 
 -- a reading that is refused for nothing before the slot itself is read answers 0 exactly when both checks hold
-pub read-good : (s : FrameState) (t coded source : List ℕ) → slotNumber s t source coded ≡ 0
-    → ((readAnswer s t coded source).number ≡ 0) ↔ Good (slotShape (rows_at s)) t s.mask s.register coded
-unfolding readAnswer readNumber
-read-good s t coded source h =
-    let a = accepted-slot s t source coded h in
-    rw (then_next (slotNumber s t source coded) (receivedNumber (rows_at s) t s.mask s.register coded) h)
-    (received-good (rows_at s) t s.mask s.register coded a.place.rows a.areas.coded-long)
+pub read_good : (s : FrameState) (t coded source : List ℕ) → slot_number s t source coded ≡ 0
+    → ((read_answer s t coded source).number ≡ 0) ↔ Good (slot_shape (rows_at s)) t s.mask s.register coded
+unfolding read_answer read_number
+read_good s t coded source h =
+    let a = accepted_slot s t source coded h in
+    rw (then_next (slot_number s t source coded) (received_number (rows_at s) t s.mask s.register coded) h)
+    (received_good (rows_at s) t s.mask s.register coded a.place.rows a.areas.coded_long)
 
 -- a reading that moves on is one that was refused for nothing before the slot itself was read
-pub read-moves : (s : FrameState) (t coded source : List ℕ) → MovesOn (readAnswer s t coded source).number ↔ (slotNumber s t source coded ≡ 0)
-unfolding readAnswer readNumber
-read-moves s t coded source =
-    let n = slotNumber s t source coded in
-    let found = receivedNumber (rows_at s) t s.mask s.register coded in (
-      earlier-none n found (slot-earlier s t source coded),
-      (λ e. rw (then_next n found e) (received-numbers (rows_at s) t s.mask s.register coded)),
+pub read_moves : (s : FrameState) (t coded source : List ℕ) → MovesOn (read_answer s t coded source).number ↔ (slot_number s t source coded ≡ 0)
+unfolding read_answer read_number
+read_moves s t coded source =
+    let n = slot_number s t source coded in
+    let found = received_number (rows_at s) t s.mask s.register coded in (
+      earlier_none n found (slot_earlier s t source coded),
+      (λ e. rw (then_next n found e) (received_numbers (rows_at s) t s.mask s.register coded)),
     )
 
 -- the state after a slot: one place on, with the register stepped over what is dispersed
-pub coded-state : (s : FrameState) (t source coded : List ℕ) → (codeAnswer s t source coded).number ≡ 0 → (codeAnswer s t source coded).state ≡ nextState s
-unfolding codeAnswer
-coded-state s t source coded h = rw (eq-eqb (slotNumber s t source coded) 0 h)
+pub coded_state : (s : FrameState) (t source coded : List ℕ) → (code_answer s t source coded).number ≡ 0 → (code_answer s t source coded).state ≡ next_state s
+unfolding code_answer
+coded_state s t source coded h = rw (eq-eqb (slot_number s t source coded) 0 h)
 
-pub read-state : (s : FrameState) (t coded source : List ℕ) → MovesOn (readAnswer s t coded source).number → (readAnswer s t coded source).state ≡ nextState s
-unfolding readAnswer
-read-state s t coded source m = ap (λ b. pick b (nextState s) s) (eq-eqb (slotNumber s t source coded) 0 ((read-moves s t coded source).0 m))
+pub read_state : (s : FrameState) (t coded source : List ℕ) → MovesOn (read_answer s t coded source).number → (read_answer s t coded source).state ≡ next_state s
+unfolding read_answer
+read_state s t coded source m = ap (λ b. pick b (next_state s) s) (eq-eqb (slot_number s t source coded) 0 ((read_moves s t coded source).0 m))
 
 -- it is the same whether the slot was coded, read well, or read with 8 or 9
-pub next-same : (s : FrameState) (t source coded t' coded' source' : List ℕ)
-    → (codeAnswer s t source coded).number ≡ 0 → MovesOn (readAnswer s t' coded' source').number
-    → (codeAnswer s t source coded).state ≡ (readAnswer s t' coded' source').state
-next-same s t source coded t' coded' source' h m = coded-state s t source coded h ∙ sym (read-state s t' coded' source' m)
+pub next_same : (s : FrameState) (t source coded t' coded' source' : List ℕ)
+    → (code_answer s t source coded).number ≡ 0 → MovesOn (read_answer s t' coded' source').number
+    → (code_answer s t source coded).state ≡ (read_answer s t' coded' source').state
+next_same s t source coded t' coded' source' h m = coded_state s t source coded h ∙ sym (read_state s t' coded' source' m)
 
 -- a state handed back is never refused for its plan or its register by the next call
-next-sound : (s : FrameState) (t source coded : List ℕ) → slotNumber s t source coded ≡ 0 → soundNumber (nextState s) ≡ 0
-unfolding registerAfter
-next-sound s t source coded h =
-    let o = (accepted-slot s t source coded h).place.ready.sound in
-    let n = coveredBits (rows_at s) in
-    sound-yes (nextState s) (moved-sound s (registerAfter (rows_at s) s.mask s.register) o (after-ok slotWidth s.mask s.register n (omega arith) o.mask o.register))
+next_sound : (s : FrameState) (t source coded : List ℕ) → slot_number s t source coded ≡ 0 → sound_number (next_state s) ≡ 0
+unfolding register_after
+next_sound s t source coded h =
+    let o = (accepted_slot s t source coded h).place.ready.sound in
+    let n = covered_bits (rows_at s) in
+    sound_yes (next_state s) (moved_sound s (register_after (rows_at s) s.mask s.register) o (after_ok slot_width s.mask s.register n (omega arith) o.mask o.register))
 
-pub coded-next : (s : FrameState) (t source coded : List ℕ) → (codeAnswer s t source coded).number ≡ 0 → soundNumber (codeAnswer s t source coded).state ≡ 0
-unfolding codeAnswer
-coded-next s t source coded h = rw (coded-state s t source coded h) (next-sound s t source coded h)
+pub coded_next : (s : FrameState) (t source coded : List ℕ) → (code_answer s t source coded).number ≡ 0 → sound_number (code_answer s t source coded).state ≡ 0
+unfolding code_answer
+coded_next s t source coded h = rw (coded_state s t source coded h) (next_sound s t source coded h)
 
-pub read_next : (s : FrameState) (t coded source : List ℕ) → MovesOn (readAnswer s t coded source).number → soundNumber (readAnswer s t coded source).state ≡ 0
-read_next s t coded source m = rw (read-state s t coded source m) (next-sound s t source coded ((read-moves s t coded source).0 m))
+pub read_next : (s : FrameState) (t coded source : List ℕ) → MovesOn (read_answer s t coded source).number → sound_number (read_answer s t coded source).state ≡ 0
+read_next s t coded source m = rw (read_state s t coded source m) (next_sound s t source coded ((read_moves s t coded source).0 m))
 
 -- a slot that was coded with 0, read at the same state with the same table: 0, the same next state, stuff bits of ones, header
 -- and data
-pub code-then-read : (s : FrameState) (t source coded out : List ℕ) → Octets source → length out ≡ length source
-    → (codeAnswer s t source coded).number ≡ 0
-    → Reads (readAnswer s t (codeArea s t source coded) out) (readArea s t (codeArea s t source coded) out) (codeAnswer s t source coded).state stuffOnes source
-unfolding codeAnswer codeArea readAnswer readArea readNumber
-code-then-read s t source coded out o l h =
+pub code_then_read : (s : FrameState) (t source coded out : List ℕ) → Octets source → length out ≡ length source
+    → (code_answer s t source coded).number ≡ 0
+    → Reads (read_answer s t (code_area s t source coded) out) (read_area s t (code_area s t source coded) out) (code_answer s t source coded).state stuff_ones source
+unfolding code_answer code_area read_answer read_area read_number
+code_then_read s t source coded out o l h =
     let R = rows_at s in
     let c = slot_of R t s.mask s.register source in
-    let a = accepted-slot s t source coded h in
-    let again = coded-read R t s.mask s.register source a.place.rows (record { octets = o; long = a.areas.source-long }) in
-    let area : codeArea s t source coded ≡ c = rw (eq-eqb (slotNumber s t source coded) 0 h) in
-    let n : slotNumber s t out c ≡ 0 = slotNumber-lengths s t out c source coded l (length-slotOf R t s.mask s.register source ∙ sym a.areas.coded-long) ∙ h in
-    let k : readNumber s t c out ≡ 0 = then-both (slotNumber s t out c) _ n again.number in
+    let a = accepted_slot s t source coded h in
+    let again = coded_read R t s.mask s.register source a.place.rows (record { octets = o; long = a.areas.source_long }) in
+    let area : code_area s t source coded ≡ c = rw (eq-eqb (slot_number s t source coded) 0 h) in
+    let n : slot_number s t out c ≡ 0 = slot_number_lengths s t out c source coded l (length_slot_of R t s.mask s.register source ∙ sym a.areas.coded_long) ∙ h in
+    let k : read_number s t c out ≡ 0 = then_both (slot_number s t out c) _ n again.number in
     rw area (record {
       number = k;
-      state = sym (next-same s t source coded t c out h (inl k));
-      stuff-is = rw (eq-eqb (readNumber s t c out) 0 k) again.stuff;
-      octets-are = rw (eq-eqb (readNumber s t c out) 0 k) again.source;
+      state = sym (next_same s t source coded t c out h (inl k));
+      stuff_is = rw (eq-eqb (read_number s t c out) 0 k) again.stuff;
+      octets_are = rw (eq-eqb (read_number s t c out) 0 k) again.source;
     })
 
 -- a slot that was read with 0, coded again at the same state with the same table: 0, the same next state, the slot again
-pub read-then-code : (s : FrameState) (t coded source out : List ℕ) → Octets coded → length out ≡ length coded
-    → (readAnswer s t coded source).number ≡ 0
-    → CodedBack s t (readAnswer s t coded source) (codeAnswer s t (readArea s t coded source) out) coded (codeArea s t (readArea s t coded source) out)
-unfolding codeAnswer codeArea readAnswer readArea readNumber
-read-then-code s t coded source out o l h =
+pub read_then_code : (s : FrameState) (t coded source out : List ℕ) → Octets coded → length out ≡ length coded
+    → (read_answer s t coded source).number ≡ 0
+    → CodedBack s t (read_answer s t coded source) (code_answer s t (read_area s t coded source) out) coded (code_area s t (read_area s t coded source) out)
+unfolding code_answer code_area read_answer read_area read_number
+read_then_code s t coded source out o l h =
     let R = rows_at s in
     let m = source_of R s.mask s.register coded in
-    let z = then-zero (slotNumber s t source coded) _ h in
-    let a = accepted-slot s t source coded z.0 in
-    let area : readArea s t coded source ≡ m = rw (eq-eqb (readNumber s t coded source) 0 h) in
-    let n : slotNumber s t m out ≡ 0 = slotNumber-lengths s t m out source coded ((sourceOf-source R s.mask s.register coded).long ∙ sym a.areas.source-long) l ∙ z.0 in
+    let z = then_zero (slot_number s t source coded) _ h in
+    let a = accepted_slot s t source coded z.0 in
+    let area : read_area s t coded source ≡ m = rw (eq-eqb (read_number s t coded source) 0 h) in
+    let n : slot_number s t m out ≡ 0 = slot_number_lengths s t m out source coded ((source_of_source R s.mask s.register coded).long ∙ sym a.areas.source_long) l ∙ z.0 in
     rw area (record {
       number = n;
-      state = next-same s t m out t coded source n (inl h);
+      state = next_same s t m out t coded source n (inl h);
       slot =
-          rw (eq-eqb (slotNumber s t m out) 0 n, eq-eqb (readNumber s t coded source) 0 h)
-          (read-coded R t s.mask s.register coded a.place.rows (record { octets = o; long = a.areas.coded-long }) z.1);
+          rw (eq-eqb (slot_number s t m out) 0 n, eq-eqb (read_number s t coded source) 0 h)
+          (read_coded R t s.mask s.register coded a.place.rows (record { octets = o; long = a.areas.coded_long }) z.1);
     })

@@ -1,14 +1,14 @@
 // The number of a slot call: the state, the place, the lent areas and the table, in document 01's order.
 ghost use Rattle.std.specs.Prelude.{◌≡◌};
-ghost use Rattle.plan.specs.States.{stateNumber};
-ghost use Rattle.slot.specs.Calls.{rows_at, slotNumber};
+ghost use Rattle.plan.specs.States.{state_number};
+ghost use Rattle.slot.specs.Calls.{rows_at, slot_number};
 
 use crate::sizes::{shape, source_octets};
 use plan::FrameState;
 
 // The rows of the parity table at the place of a state's next slot.
 pub fn rows_at(state: FrameState) -> usize
-    requires { stateNumber state ≡ 0 }
+    requires { state_number state ≡ 0 }
     ensures { result ≡ rows_at state }
 {
     let place = plan::next_place(state);
@@ -17,7 +17,7 @@ pub fn rows_at(state: FrameState) -> usize
 
 // The refusal of a slot call before any work on the slot, or 0.
 pub fn slot_number(state: FrameState, table: &[u16], source: &[u8], coded: &[u8]) -> u8
-    ensures { result ≡ slotNumber state table.now source.now coded.now }
+    ensures { result ≡ slot_number state table.now source.now coded.now }
 {
     let number = plan::state_number(state);
     if number != 0 {

@@ -1,14 +1,14 @@
 // How many bits and octets the parts of a slot have, for the row count of a known rate.
 ghost use Rattle.std.specs.Prelude.{◌≡◌};
 ghost use Rattle.plan.specs.RateLaws.{Rows};
-ghost use Rattle.slot.specs.Slots.{messageBits, sourceOctets, slotShape};
+ghost use Rattle.slot.specs.Slots.{message_bits, source_octets, slot_shape};
 
 use codeword::Shape;
 
 // Header and data.
 pub fn message_bits(rows: usize) -> usize
     requires { Rows rows }
-    ensures { result ≡ messageBits rows }
+    ensures { result ≡ message_bits rows }
 {
     176 + 374 * (rows - 1)
 }
@@ -16,7 +16,7 @@ pub fn message_bits(rows: usize) -> usize
 // Header and data in octets.
 pub fn source_octets(rows: usize) -> usize
     requires { Rows rows }
-    ensures { result ≡ sourceOctets rows }
+    ensures { result ≡ source_octets rows }
 {
     message_bits(rows) / 8
 }
@@ -24,7 +24,7 @@ pub fn source_octets(rows: usize) -> usize
 // The codeword that a slot is: six stuff bits behind the BCH bits, and parity over these bits alone.
 pub fn shape(rows: usize) -> Shape
     requires { Rows rows }
-    ensures { result ≡ slotShape rows }
+    ensures { result ≡ slot_shape rows }
 {
     let message = message_bits(rows);
     Shape {

@@ -2,39 +2,39 @@
 use Rattle.std.specs.Prelude.{◌≡◌, true, List, ℕ, eqb, length}
 use Rattle.std.proofs.Common.{arith, eqb-true}
 use Rattle.lists.specs.Choice.{pick}
-use Rattle.lists.specs.ChoiceLaws.{then-zero, not-refused}
+use Rattle.lists.specs.ChoiceLaws.{then_zero, not_refused}
 use Rattle.refusal.specs.Numbers.{PLAN, LENGTH, TABLE}
-use Rattle.parity_table.specs.Tables.{tableOk}
-use Rattle.plan.specs.Rates.{rateOk, rows_of}
-use Rattle.plan.specs.Sizes.{slotOctets}
-use Rattle.codeword.specs.AnswerLaws.{answer-refused, answer-looked}
-use Rattle.codeword.specs.Reading.{noPosition}
-use Rattle.slot.specs.Reading.{checkedAnswer}
-use Rattle.slot.specs.Calls.{formNumber, checkNumber, checkAnswer}
-use Rattle.slot.specs.CallLaws.{form-earlier}
+use Rattle.parity_table.specs.Tables.{table_ok}
+use Rattle.plan.specs.Rates.{rate_ok, rows_of}
+use Rattle.plan.specs.Sizes.{slot_octets}
+use Rattle.codeword.specs.AnswerLaws.{answer_refused, answer_looked}
+use Rattle.codeword.specs.Reading.{no_position}
+use Rattle.slot.specs.Reading.{checked_answer}
+use Rattle.slot.specs.Calls.{form_number, check_number, check_answer}
+use Rattle.slot.specs.CallLaws.{form_earlier}
 
 -- what a number 0 says of the rate, the slot and the table
 pub record Formed (rate : ℕ) (t c : List ℕ) : Type 0 where
-  pub rate-known : rateOk rate ≡ true
-  pub whole : length c ≡ slotOctets
-  pub table : tableOk (rows_of rate) t ≡ true
+  pub rate_known : rate_ok rate ≡ true
+  pub whole : length c ≡ slot_octets
+  pub table : table_ok (rows_of rate) t ≡ true
 
-pub formed : (rate : ℕ) (t c : List ℕ) → formNumber rate t c ≡ 0 → Formed rate t c
-unfolding formNumber
+pub formed : (rate : ℕ) (t c : List ℕ) → form_number rate t c ≡ 0 → Formed rate t c
+unfolding form_number
 formed rate t c h =
-    let a = then-zero (pick (rateOk rate) 0 PLAN) _ h in
-    let b = then-zero (pick (eqb (length c) slotOctets) 0 LENGTH) _ a.1 in
+    let a = then_zero (pick (rate_ok rate) 0 PLAN) _ h in
+    let b = then_zero (pick (eqb (length c) slot_octets) 0 LENGTH) _ a.1 in
     record {
-      rate-known = not-refused (rateOk rate) PLAN (omega arith) a.0;
-      whole = eqb-true (length c) slotOctets (not-refused (eqb (length c) slotOctets) LENGTH (omega arith) b.0);
-      table = not-refused (tableOk (rows_of rate) t) TABLE (omega arith) b.1;
+      rate_known = not_refused (rate_ok rate) PLAN (omega arith) a.0;
+      whole = eqb-true (length c) slot_octets (not_refused (eqb (length c) slot_octets) LENGTH (omega arith) b.0);
+      table = not_refused (table_ok (rows_of rate) t) TABLE (omega arith) b.1;
     }
 
 module _ (rate : ℕ) (t c : List ℕ) where
-  pub check-refused : (formNumber rate t c ≡ 0 → ⊥) → checkAnswer rate t c ≡ record { number = formNumber rate t c; position = noPosition }
-  unfolding checkAnswer checkNumber
-  check-refused = answer-refused (formNumber rate t c) _ _ (form-earlier rate t c)
+  pub check_refused : (form_number rate t c ≡ 0 → ⊥) → check_answer rate t c ≡ record { number = form_number rate t c; position = no_position }
+  unfolding check_answer check_number
+  check_refused = answer_refused (form_number rate t c) _ _ (form_earlier rate t c)
 
-  pub check-looked : formNumber rate t c ≡ 0 → checkAnswer rate t c ≡ checkedAnswer (rows_of rate) t c
-  unfolding checkAnswer checkNumber
-  check-looked = answer-looked (formNumber rate t c) _ _
+  pub check_looked : form_number rate t c ≡ 0 → check_answer rate t c ≡ checked_answer (rows_of rate) t c
+  unfolding check_answer check_number
+  check_looked = answer_looked (form_number rate t c) _ _

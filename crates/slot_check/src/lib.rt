@@ -1,14 +1,14 @@
 // The lone parity check.
 ghost use Rattle.std.specs.Prelude.{◌≡◌};
-ghost use Rattle.slot.specs.Reading.{checkedAnswer};
-ghost use Rattle.slot.specs.Calls.{formNumber, checkAnswer};
+ghost use Rattle.slot.specs.Reading.{checked_answer};
+ghost use Rattle.slot.specs.Calls.{form_number, check_answer};
 ghost use Rattle.slot.specs.Areas.{Checked};
 
 use codeword::WordAnswer;
 
 // The refusal of the rate, of the slot's length or of the table, or 0.
 fn form_number(rate: u32, table: &[u16], coded: &[u8]) -> u8
-    ensures { result ≡ formNumber rate table.now coded.now }
+    ensures { result ≡ form_number rate table.now coded.now }
 {
     if !plan::known(rate, plan::RATES) {
         return refusal::PLAN;
@@ -32,7 +32,7 @@ fn checked(
     sums: &mut [u8],
 ) -> WordAnswer
     requires { Checked rows table.now coded.now bits.old input.old sums.old }
-    ensures { result ≡ checkedAnswer rows table.now coded.now }
+    ensures { result ≡ checked_answer rows table.now coded.now }
 {
     let shape = slot::shape(rows);
     let end = 374 * rows;
@@ -54,7 +54,7 @@ fn checked(
 
 // Checks the parity of a slot of a rate, whatever its dispersal: its number, and where it broke.
 pub fn check_parity(rate: u32, table: &[u16], coded: &[u8]) -> WordAnswer
-    ensures { result ≡ checkAnswer rate table.now coded.now }
+    ensures { result ≡ check_answer rate table.now coded.now }
 {
     let number = form_number(rate, table, coded);
     if number != 0 {

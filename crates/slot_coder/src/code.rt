@@ -1,6 +1,6 @@
 // Coding a slot at a frame's state.
 ghost use Rattle.std.specs.Prelude.{◌≡◌};
-ghost use Rattle.slot.specs.Calls.{codeAnswer, codeArea};
+ghost use Rattle.slot.specs.Calls.{code_answer, code_area};
 
 use crate::stages::put_slot;
 use plan::{Answer, FrameState};
@@ -8,8 +8,8 @@ use plan::{Answer, FrameState};
 // Codes header and data octets into the 5,610 octets of the state's next slot: the state one slot on, or the refusal, the
 // state as it was and the area as it was.
 pub fn code_slot(state: FrameState, table: &[u16], source: &[u8], coded: &mut [u8]) -> Answer
-    ensures value { result ≡ codeAnswer state table.now source.now coded.old }
-    ensures coded_after { coded.new ≡ codeArea state table.now source.now coded.old }
+    ensures value { result ≡ code_answer state table.now source.now coded.old }
+    ensures coded_after { coded.new ≡ code_area state table.now source.now coded.old }
 {
     let number = slot::slot_number(state, table, source, coded);
     if number != 0 {

@@ -2,13 +2,13 @@
 ghost use Rattle.std.specs.Prelude.{◌≡◌};
 ghost use Rattle.bits.specs.Octets.{bits_of};
 ghost use Rattle.codeword.specs.Words.{plain};
-ghost use Rattle.slot.specs.Slots.{stuffBits, slot_of, registerAfter};
+ghost use Rattle.slot.specs.Slots.{stuff_bits, slot_of, register_after};
 ghost use Rattle.slot_coder.specs.Needs.{Plain, Coding};
 
 // Header and data, BCH bits and stuff bits.
 fn put_plain(rows: usize, source: &[u8], bits: &mut [u8])
     requires { Plain rows source.now bits.old }
-    ensures { bits.new ≡ plain (bits_of source.now) stuffBits }
+    ensures { bits.new ≡ plain (bits_of source.now) stuff_bits }
 {
     let message = slot::message_bits(rows);
     let stuff = message + 192;
@@ -31,7 +31,7 @@ pub fn put_slot(
     coded: &mut [u8],
 ) -> u32
     requires { Coding rows register table.now source.now bits.old input.old coded.old }
-    ensures value { result ≡ registerAfter rows mask register }
+    ensures value { result ≡ register_after rows mask register }
     ensures coded_after { coded.new ≡ slot_of rows table.now mask register source.now }
 {
     let shape = slot::shape(rows);

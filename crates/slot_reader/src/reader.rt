@@ -1,6 +1,6 @@
 // The call that reads a slot.
 ghost use Rattle.std.specs.Prelude.{◌≡◌};
-ghost use Rattle.slot.specs.Calls.{readAnswer, readArea};
+ghost use Rattle.slot.specs.Calls.{read_answer, read_area};
 
 use crate::received;
 use plan::FrameState;
@@ -10,8 +10,8 @@ use slot::SlotRead;
 // refused for its parity or BCH bits leaves the octets as they were, and the state moves on all the same; with its parity's
 // refusal comes the lowest failing parity position.
 pub fn read_slot(state: FrameState, table: &[u16], coded: &[u8], source: &mut [u8]) -> SlotRead
-    ensures value { result ≡ readAnswer state table.now coded.now source.old }
-    ensures source_after { source.new ≡ readArea state table.now coded.now source.old }
+    ensures value { result ≡ read_answer state table.now coded.now source.old }
+    ensures source_after { source.new ≡ read_area state table.now coded.now source.old }
 {
     let number = slot::slot_number(state, table, source, coded);
     if number != 0 {

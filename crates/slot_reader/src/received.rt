@@ -1,10 +1,10 @@
 // A received slot, read by way of lent areas.
 ghost use Rattle.std.specs.Prelude.{◌≡◌};
 ghost use Rattle.bits.specs.Digits.{number};
-ghost use Rattle.bits.specs.Octets.{octetsOf};
-ghost use Rattle.codeword.specs.Reading.{messageIn, tailIn};
+ghost use Rattle.bits.specs.Octets.{octets_of};
+ghost use Rattle.codeword.specs.Reading.{message_in, tail_in};
 ghost use Rattle.codeword.specs.Needs.{ReadOf as ReadWord};
-ghost use Rattle.slot.specs.Slots.{sourceOctets, slotShape};
+ghost use Rattle.slot.specs.Slots.{source_octets, slot_shape};
 ghost use Rattle.slot_reader.specs.Needs.{Taken, Held, Readable, ReadOf};
 
 use word_reader::WordRead;
@@ -22,8 +22,8 @@ pub struct Found {
 // Header and data octets of the bits with dispersal taken off; their stuff bits as a number.
 fn take_source(rows: usize, plain: &[u8], source: &mut [u8]) -> u8
     requires { Taken rows plain.now source.old }
-    ensures value { result ≡ number 6 (tailIn (slotShape rows) plain.now) }
-    ensures source_after { source.new ≡ octetsOf (sourceOctets rows) (messageIn (slotShape rows) plain.now) }
+    ensures value { result ≡ number 6 (tail_in (slot_shape rows) plain.now) }
+    ensures source_after { source.new ≡ octets_of (source_octets rows) (message_in (slot_shape rows) plain.now) }
 {
     let message = slot::message_bits(rows);
     let stuff = message + 192;
@@ -43,7 +43,7 @@ fn read_codeword(
     sums: &mut [u8],
 ) -> WordRead
     requires { Held rows register table.now coded.now bits.old input.old sums.old }
-    ensures { ReadWord (slotShape rows) table.now mask register coded.now result.number result.position result.register bits.new }
+    ensures { ReadWord (slot_shape rows) table.now mask register coded.now result.number result.position result.register bits.new }
 {
     let end = 374 * rows;
     let positions = 374 * (120 - rows);

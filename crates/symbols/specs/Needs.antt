@@ -2,20 +2,20 @@
 use Rattle.std.specs.Prelude.{◌≡◌, List, ℕ, ◌+◌, ◌*◌, ◌/◌, ◌%◌, ◌^◌, ◌<◌, ◌≤◌, length, get_or}
 use Rattle.lists.specs.Count.{table}
 use Rattle.lists.specs.Runs.{Bits}
-use Rattle.plan.specs.Sizes.{slotBits}
+use Rattle.plan.specs.Sizes.{slot_bits}
 use Rattle.plan.specs.RateLaws.{Between}
 
 -- place k of s labels under modulation m
 pub record PlaceOf (m s k : ℕ) : Type 0 where
   pub known : Between 1 5 m
   pub place : k < m
-  pub few : s ≤ slotBits
+  pub few : s ≤ slot_bits
 
 -- as many bits as the labels have under modulation m
 pub record Shared (m : ℕ) (bits labels : List ℕ) : Type 0 where
   pub known : Between 1 5 m
   pub long : length bits ≡ m * length labels
-  pub few : length labels ≤ slotBits
+  pub few : length labels ≤ slot_bits
 
 -- the same of bits that are to be labelled
 pub record Labelling (m : ℕ) (u labels : List ℕ) : Type 0 where

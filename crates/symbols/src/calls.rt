@@ -1,7 +1,7 @@
 // The four calls: labels of a slot and of a TMCC block, and the way back.
 ghost use Rattle.std.specs.Prelude.{length};
 ghost use Rattle.refusal.specs.Answers.{Answered};
-ghost use Rattle.symbols.specs.Labels.{labelsOfSlot, slotOfLabels, labelsOfBlock, blockOfLabels, slotNumber, slotOfLabelsNumber, blockNumber, blockOfLabelsNumber};
+ghost use Rattle.symbols.specs.Labels.{labels_of_slot, slot_of_labels, labels_of_block, block_of_labels, slot_number, slot_of_labels_number, block_number, block_of_labels_number};
 
 use crate::numbers::{block_number, block_of_labels_number, slot_number, slot_of_labels_number};
 use crate::places::right_to_left;
@@ -9,7 +9,7 @@ use crate::runs::{label_octets, unlabel_octets};
 
 // The labels of a slot; a refusal leaves the labels as they were.
 pub fn labels_of_slot(modulation: u32, rate: u32, slot: &[u8], labels: &mut [u8]) -> u8
-    ensures { Answered (slotNumber modulation rate (length slot.now) (length labels.old)) (labelsOfSlot modulation rate slot.now) labels.old result labels.new }
+    ensures { Answered (slot_number modulation rate (length slot.now) (length labels.old)) (labels_of_slot modulation rate slot.now) labels.old result labels.new }
 {
     let number = slot_number(modulation, rate, slot.len(), labels.len());
     if number != 0 {
@@ -28,7 +28,7 @@ pub fn labels_of_slot(modulation: u32, rate: u32, slot: &[u8], labels: &mut [u8]
 
 // The slot of labels; a refusal leaves the slot as it was.
 pub fn slot_of_labels(modulation: u32, rate: u32, labels: &[u8], slot: &mut [u8]) -> u8
-    ensures { Answered (slotOfLabelsNumber modulation rate labels.now (length slot.old)) (slotOfLabels modulation rate labels.now) slot.old result slot.new }
+    ensures { Answered (slot_of_labels_number modulation rate labels.now (length slot.old)) (slot_of_labels modulation rate labels.now) slot.old result slot.new }
 {
     let number = slot_of_labels_number(modulation, rate, labels, slot.len());
     if number != 0 {
@@ -47,7 +47,7 @@ pub fn slot_of_labels(modulation: u32, rate: u32, labels: &[u8], slot: &mut [u8]
 
 // The labels of a TMCC block; a refusal leaves the labels as they were.
 pub fn labels_of_block(block: &[u8], labels: &mut [u8]) -> u8
-    ensures { Answered (blockNumber (length block.now) (length labels.old)) (labelsOfBlock block.now) labels.old result labels.new }
+    ensures { Answered (block_number (length block.now) (length labels.old)) (labels_of_block block.now) labels.old result labels.new }
 {
     let number = block_number(block.len(), labels.len());
     if number != 0 {
@@ -60,7 +60,7 @@ pub fn labels_of_block(block: &[u8], labels: &mut [u8]) -> u8
 
 // The TMCC block of labels; a refusal leaves the block as it was.
 pub fn block_of_labels(labels: &[u8], block: &mut [u8]) -> u8
-    ensures { Answered (blockOfLabelsNumber labels.now (length block.old)) (blockOfLabels labels.now) block.old result block.new }
+    ensures { Answered (block_of_labels_number labels.now (length block.old)) (block_of_labels labels.now) block.old result block.new }
 {
     let number = block_of_labels_number(labels, block.len());
     if number != 0 {

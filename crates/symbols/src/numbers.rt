@@ -1,10 +1,10 @@
 // The refusals of the calls.
 ghost use Rattle.std.specs.Prelude.{◌≡◌, ◌≤◌};
-ghost use Rattle.symbols.specs.Labels.{lengthNumber, labelNumber, slotNumber, slotOfLabelsNumber, blockNumber, blockOfLabelsNumber};
+ghost use Rattle.symbols.specs.Labels.{length_number, label_number, slot_number, slot_of_labels_number, block_number, block_of_labels_number};
 
 // The refusal of a wrong length, or 0: there must be n octets and s labels.
 fn length_number(n: usize, s: usize, octets: usize, labels: usize) -> u8
-    ensures { result ≡ lengthNumber n s octets labels }
+    ensures { result ≡ length_number n s octets labels }
 {
     if octets != n {
         return refusal::LENGTH;
@@ -18,7 +18,7 @@ fn length_number(n: usize, s: usize, octets: usize, labels: usize) -> u8
 // The refusal of a label that has more bits than the modulation, or 0.
 pub fn label_number(modulation: usize, labels: &[u8]) -> u8
     requires { modulation ≤ 5 }
-    ensures { result ≡ labelNumber modulation labels.now }
+    ensures { result ≡ label_number modulation labels.now }
 {
     let limit = 1u64 << modulation;
     let mut r: usize = 0;
@@ -33,7 +33,7 @@ pub fn label_number(modulation: usize, labels: &[u8]) -> u8
 
 // What both slot calls test: modulation and rate, then the lengths.
 pub fn slot_number(modulation: u32, rate: u32, octets: usize, labels: usize) -> u8
-    ensures { result ≡ slotNumber modulation rate octets labels }
+    ensures { result ≡ slot_number modulation rate octets labels }
 {
     if plan::known(modulation, plan::MODULATIONS) {
         if plan::known(rate, plan::RATES) {
@@ -50,7 +50,7 @@ pub fn slot_number(modulation: u32, rate: u32, octets: usize, labels: usize) -> 
 
 // What the way back of a slot tests: the same, then the labels.
 pub fn slot_of_labels_number(modulation: u32, rate: u32, labels: &[u8], room: usize) -> u8
-    ensures { result ≡ slotOfLabelsNumber modulation rate labels.now room }
+    ensures { result ≡ slot_of_labels_number modulation rate labels.now room }
 {
     let number = slot_number(modulation, rate, room, labels.len());
     if number != 0 {
@@ -61,14 +61,14 @@ pub fn slot_of_labels_number(modulation: u32, rate: u32, labels: &[u8], room: us
 
 // What both block calls test: the lengths; a label has one bit, so there are as many labels as bits.
 pub fn block_number(octets: usize, labels: usize) -> u8
-    ensures { result ≡ blockNumber octets labels }
+    ensures { result ≡ block_number octets labels }
 {
     length_number(plan::BLOCK_OCTETS, plan::BLOCK_BITS, octets, labels)
 }
 
 // What the way back of a block tests: the same, then the labels, of one bit each.
 pub fn block_of_labels_number(labels: &[u8], room: usize) -> u8
-    ensures { result ≡ blockOfLabelsNumber labels.now room }
+    ensures { result ≡ block_of_labels_number labels.now room }
 {
     let number = block_number(room, labels.len());
     if number != 0 {

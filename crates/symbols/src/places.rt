@@ -1,11 +1,11 @@
 // One place of every label: the bits that it has lie one stride apart.
 ghost use Rattle.std.specs.Prelude.{◌≡◌, length};
-ghost use Rattle.symbols.specs.Index.{rightToLeft, bit_at, stride_of};
+ghost use Rattle.symbols.specs.Index.{right_to_left, bit_at, stride_of};
 ghost use Rattle.symbols.specs.Needs.{PlaceOf, Taking, grown, Putting, Put, weighed};
 
 // Whether rows are read from the right.
 pub fn right_to_left(modulation: u32, rate: u32) -> bool
-    ensures { result ≡ rightToLeft modulation rate }
+    ensures { result ≡ right_to_left modulation rate }
 {
     if rate <= 2 {
         return true;

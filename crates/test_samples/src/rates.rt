@@ -1,6 +1,6 @@
 // A frame whose slots all have one rate.
 ghost use Rattle.std.specs.Prelude.{◌≤◌};
-ghost use Rattle.plan.specs.Sizes.{mostSource};
+ghost use Rattle.plan.specs.Sizes.{most_source};
 
 use plan::{FrameState, Plan};
 
@@ -27,7 +27,7 @@ pub fn opened(rate: u16) -> FrameState {
 
 // The header and data octets of a slot.
 pub fn source_length(rate: u16) -> usize
-    ensures { result ≤ mostSource }
+    ensures { result ≤ most_source }
 {
     22 + plan::data_octets(rate as u32)
 }

@@ -9,10 +9,10 @@ short true b x y z h k l = h
 short false true x y z h k l = k
 short false false x y z h k l = l
 
-pub length-decimal : (n : ℕ) → length (decimal n) ≤ 3
+pub length_decimal : (n : ℕ) → length (decimal n) ≤ 3
 unfolding decimal
-length-decimal n = short (ltb n 10) (ltb n 100) _ _ _ (omega arith) (omega arith) (omega arith)
+length_decimal n = short (ltb n 10) (ltb n 100) _ _ _ (omega arith) (omega arith) (omega arith)
 
-pub length-field : (n : ℕ) → length (field n) ≤ 4
+pub length_field : (n : ℕ) → length (field n) ≤ 4
 unfolding field
-length-field n = omega (arith, length-append (decimal n) (32 ∷ []), length-decimal n)
+length_field n = omega (arith, length-append (decimal n) (32 ∷ []), length_decimal n)

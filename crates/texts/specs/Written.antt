@@ -2,7 +2,7 @@
 use Rattle.std.specs.Prelude.{◌≡◌, refl, List, ◌++◌, [], ℕ, ◌+◌, ◌≤◌, length}
 use Rattle.std.proofs.Common.{sym, ap, ◌∙◌, subst, arith, length-append}
 use Rattle.lists.specs.Parts.{put}
-use Rattle.lists.specs.PartLaws.{length-put, put-put, put-none}
+use Rattle.lists.specs.PartLaws.{length_put, put_put, put_none}
 
 -- the area with the text put into it, and the place behind the text
 pub record Written (text : List ℕ) (at : ℕ) (found area : List ℕ) (next : ℕ) : Type 0 where
@@ -12,16 +12,16 @@ pub record Written (text : List ℕ) (at : ℕ) (found area : List ℕ) (next : 
 
 pub written : (text : List ℕ) (at : ℕ) (found area : List ℕ) (next : ℕ) → at + length text ≤ length found → area ≡ put at text found → next ≡ at + length text
     → Written text at found area next
-written text at found area next h e n = record { filled = e; reached = n; same = ap length e ∙ length-put at text found h }
+written text at found area next h e n = record { filled = e; reached = n; same = ap length e ∙ length_put at text found h }
 
 pub written_none : (at : ℕ) (found : List ℕ) → Written [] at found found at
-written_none at found = record { filled = sym (put-none at found); reached = omega arith; same = refl }
+written_none at found = record { filled = sym (put_none at found); reached = omega arith; same = refl }
 
 -- one text behind the other
 pub written_then : {x y : List ℕ} {at : ℕ} {a b c : List ℕ} {m n : ℕ} → at ≤ length a → Written x at a b m → Written y m b c n → Written (x ++ y) at a c n
 written_then {x} {y} {at} {a} {b} {c} {m} {n} h f g =
     record {
-      filled = g.filled ∙ ap (λ (k : ℕ). put k y b) f.reached ∙ ap (put (at + length x) y) f.filled ∙ put-put at x y a h;
+      filled = g.filled ∙ ap (λ (k : ℕ). put k y b) f.reached ∙ ap (put (at + length x) y) f.filled ∙ put_put at x y a h;
       reached = omega (arith, f.reached, g.reached, length-append x y);
       same = g.same ∙ f.same;
     }

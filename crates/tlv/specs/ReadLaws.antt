@@ -14,23 +14,23 @@ use Rattle.std.proofs.Math.Seq.{drop-append_seam}
 use Rattle.lists.specs.Choice.{pick}
 use Rattle.lists.specs.ChoiceLaws.{and_left, and_right, clash}
 use Rattle.lists.specs.Count.{first, joined}
-use Rattle.lists.specs.CountLaws.{First, first-first, first-is, joined-none, joined-more, joined-quiet}
-use Rattle.tlv.specs.Packets.{size_at, emptyNull, run}
-use Rattle.tlv.specs.PacketLaws.{size-least}
-use Rattle.tlv.specs.SplitLaws.{joined-from}
+use Rattle.lists.specs.CountLaws.{First, first_first, first_is, joined_none, joined_more, joined_quiet}
+use Rattle.tlv.specs.Packets.{size_at, empty_null, run}
+use Rattle.tlv.specs.PacketLaws.{size_least}
+use Rattle.tlv.specs.SplitLaws.{joined_from}
 use Rattle.tlv.specs.Fill.{report}
 use Rattle.tlv.specs.Honest.{Honest}
-use Rattle.tlv.specs.Read.{lostSlot, meets, reporting, onFrom, Step, stop, on, whole, step, Reading, after, read, start}
-use Rattle.tlv.specs.Sent.{untouched, cut_at, readFrom}
-use Rattle.tlv.specs.SlotLaws.{slot-low, slot-high, slot-below, slot-from, met, Met, meets-lost}
+use Rattle.tlv.specs.Read.{lost_slot, meets, reporting, on_from, Step, stop, on, whole, step, Reading, after, read, start}
+use Rattle.tlv.specs.Sent.{untouched, cut_at, read_from}
+use Rattle.tlv.specs.SlotLaws.{slot_low, slot_high, slot_below, slot_from, met, Met, meets_lost}
 
 -- the octets of what begins at i, where it is whole, touches no lost slot and is no empty null
 unfoldable pub arrives : ℕ → ℕ → List ℕ → (ℕ → ℕ) → (ℕ → Bool) → ℕ → List ℕ
 arrives D n lost o b i =
-    pick (untouched D n lost o b i && (leb (i + size_at o i) (D * n) && not (emptyNull o i))) (run o i (size_at o i)) []
+    pick (untouched D n lost o b i && (leb (i + size_at o i) (D * n) && not (empty_null o i))) (run o i (size_at o i)) []
 
-append-same : (xs ys zs : List ℕ) → xs ++ ys ≡ xs ++ zs → ys ≡ zs
-append-same xs ys zs e = sym (drop-append_seam xs ys) ∙ ap (drop (length xs)) e ∙ drop-append_seam xs zs
+append_same : (xs ys zs : List ℕ) → xs ++ ys ≡ xs ++ zs → ys ≡ zs
+append_same xs ys zs e = sym (drop-append_seam xs ys) ∙ ap (drop (length xs)) e ∙ drop-append_seam xs zs
 
 -- what a slot's report says
 pub record Told (D : ℕ) (b : ℕ → Bool) (k r : ℕ) : Type 0 where
@@ -39,9 +39,9 @@ pub record Told (D : ℕ) (b : ℕ → Bool) (k r : ℕ) : Type 0 where
   pub begins : (r ≡ 65535 → ⊥) → b (D * k + r) ≡ true
   pub before : (i : ℕ) → i < r → i < D → b (D * k + i) ≡ false
 
-pub report-told : (D : ℕ) → D ≤ 65535 → (b : ℕ → Bool) (k : ℕ) → Told D b k (report D b k)
+pub report_told : (D : ℕ) → D ≤ 65535 → (b : ℕ → Bool) (k : ℕ) → Told D b k (report D b k)
 unfolding report
-report-told D small b k = go (first D (λ i. b (D * k + i))) (first-first D _) (ltb (first D (λ i. b (D * k + i))) D) refl
+report_told D small b k = go (first D (λ i. b (D * k + i))) (first_first D _) (ltb (first D (λ i. b (D * k + i))) D) refl
   where
     go : (r : ℕ) → First D (λ i. b (D * k + i)) r → (t : Bool) → ltb r D ≡ t → Told D b k (pick t r 65535)
     go r h true e =
@@ -74,10 +74,10 @@ module _ (D n : ℕ) (pos : 0 < D) (lost begins : List ℕ) (o : ℕ → ℕ) (b
   quiet_none i h = quiet i (rw h)
 
   -- what begins at i meets the lost slot k
-  quiet-lost : (i k : ℕ) → k < n → i / D ≤ k → D * k < i + size_at o i → lostSlot lost k ≡ true → Quiet i
+  quiet_lost : (i k : ℕ) → k < n → i / D ≤ k → D * k < i + size_at o i → lost_slot lost k ≡ true → Quiet i
   unfolding untouched
-  quiet-lost i k l x y t =
-      quiet i (rw (lt-ltb _ n (meets-lost D n lost i (i + size_at o i) k l x y t)) (mathlib.Core.Bool.and-false (b i)))
+  quiet_lost i k l x y t =
+      quiet i (rw (lt-ltb _ n (meets_lost D n lost i (i + size_at o i) k l x y t)) (mathlib.Core.Bool.and-false (b i)))
 
   -- what is left to read from p on
   record Good (p : ℕ) (r : Reading) : Type 0 where
@@ -87,11 +87,11 @@ module _ (D n : ℕ) (pos : 0 < D) (lost begins : List ℕ) (o : ℕ → ℕ) (b
     before : (i : ℕ) → p ≤ i → i < r.unfinished → cut_at D n lost o b i ≡ false
     there : r.unfinished < D * n → cut_at D n lost o b r.unfinished ≡ true
 
-  good-skip : (p q : ℕ) (r : Reading) → p ≤ q → ((i : ℕ) → p ≤ i → i < q → Quiet i) → Good q r → Good p r
-  good-skip p q r l h g =
+  good_skip : (p q : ℕ) (r : Reading) → p ≤ q → ((i : ℕ) → p ≤ i → i < q → Quiet i) → Good q r → Good p r
+  good_skip p q r l h g =
       let low = g.low in
       record {
-        rest = g.rest ∙ ap (λ (xs : List ℕ). xs ++ r.written) (joined-quiet (arrives D n lost o b) p q l (λ i x y. (h i x y).none));
+        rest = g.rest ∙ ap (λ (xs : List ℕ). xs ++ r.written) (joined_quiet (arrives D n lost o b) p q l (λ i x y. (h i x y).none));
         low = omega arith;
         high = g.high;
         before = λ i x y. (go i x y low (dec_lt i q));
@@ -103,15 +103,15 @@ module _ (D n : ℕ) (pos : 0 < D) (lost begins : List ℕ) (o : ℕ → ℕ) (b
       go i x y z (no m) = g.before i (omega arith) y
 
   -- what begins at p was dealt with, and the reading goes on at q
-  good-pass : (p q : ℕ) (xs : List ℕ) (r : Reading) → p < q → arrives D n lost o b p ≡ xs → cut_at D n lost o b p ≡ false
+  good_pass : (p q : ℕ) (xs : List ℕ) (r : Reading) → p < q → arrives D n lost o b p ≡ xs → cut_at D n lost o b p ≡ false
       → ((i : ℕ) → p < i → i < q → Quiet i) → Good q r → Good p (record { written = xs ++ r.written; unfinished = r.unfinished })
-  good-pass p q xs r l a c h g =
-      let k : Good (p + 1) r = good-skip (p + 1) q r (omega arith) (λ i x y. h i (omega arith) y) g in
+  good_pass p q xs r l a c h g =
+      let k : Good (p + 1) r = good_skip (p + 1) q r (omega arith) (λ i x y. h i (omega arith) y) g in
       let low = k.low in
       record {
         rest =
             k.rest
-            ∙ ap (λ (ys : List ℕ). ys ++ r.written) (joined-more p (arrives D n lost o b) ∙ ap (λ (ys : List ℕ). joined p (arrives D n lost o b) ++ ys) a)
+            ∙ ap (λ (ys : List ℕ). ys ++ r.written) (joined_more p (arrives D n lost o b) ∙ ap (λ (ys : List ℕ). joined p (arrives D n lost o b) ++ ys) a)
             ∙ append_assoc (joined p (arrives D n lost o b)) xs r.written;
         low = omega arith;
         high = k.high;
@@ -123,8 +123,8 @@ module _ (D n : ℕ) (pos : 0 < D) (lost begins : List ℕ) (o : ℕ → ℕ) (b
       go k i x y (yes m) = k.before i (omega arith) y
       go k i x y (no m) = let e : i ≡ p = omega arith in rw e c
 
-  good-done : (p : ℕ) → p ≡ D * n → (u : ℕ) → u ≡ D * n → Good p (record { written = []; unfinished = u })
-  good-done p e u d =
+  good_done : (p : ℕ) → p ≡ D * n → (u : ℕ) → u ≡ D * n → Good p (record { written = []; unfinished = u })
+  good_done p e u d =
       record {
         rest = rw e (sym (append-nil _));
         low = omega arith;
@@ -133,13 +133,13 @@ module _ (D n : ℕ) (pos : 0 < D) (lost begins : List ℕ) (o : ℕ → ℕ) (b
         there = λ x. absurd (omega arith);
       }
 
-  good-stop : (p : ℕ) → p < D * n → arrives D n lost o b p ≡ [] → cut_at D n lost o b p ≡ true → ((i : ℕ) → p < i → i < D * n → Quiet i)
+  good_stop : (p : ℕ) → p < D * n → arrives D n lost o b p ≡ [] → cut_at D n lost o b p ≡ true → ((i : ℕ) → p < i → i < D * n → Quiet i)
       → Good p (record { written = []; unfinished = p })
-  good-stop p l a c h =
+  good_stop p l a c h =
       record {
         rest =
-            joined-quiet (arrives D n lost o b) (p + 1) (D * n) (omega arith) (λ i x y. (h i (omega arith) y).none)
-            ∙ joined-more p (arrives D n lost o b)
+            joined_quiet (arrives D n lost o b) (p + 1) (D * n) (omega arith) (λ i x y. (h i (omega arith) y).none)
+            ∙ joined_more p (arrives D n lost o b)
             ∙ ap (λ (ys : List ℕ). joined p (arrives D n lost o b) ++ ys) a;
         low = omega arith;
         high = omega arith;
@@ -154,30 +154,30 @@ module _ (D n : ℕ) (pos : 0 < D) (lost begins : List ℕ) (o : ℕ → ℕ) (b
     begin : q < D * n → b q ≡ true
     passed : (i : ℕ) → D * m ≤ i → i < q → Quiet i
 
-  reporting-first : (m : ℕ) → First n (λ s. leb m s && (not (lostSlot lost s) && not (eqb (get_or begins s 0) 65535))) (reporting n lost begins m)
+  reporting_first : (m : ℕ) → First n (λ s. leb m s && (not (lost_slot lost s) && not (eqb (get_or begins s 0) 65535))) (reporting n lost begins m)
   unfolding reporting
-  reporting-first m = first-first n _
+  reporting_first m = first_first n _
 
   -- no beginning in a sound slot that is passed over
-  silent : (m i : ℕ) → D * m ≤ i → i < D * n → i / D < reporting n lost begins m → lostSlot lost (i / D) ≡ false → b i ≡ false
+  silent : (m i : ℕ) → D * m ≤ i → i < D * n → i / D < reporting n lost begins m → lost_slot lost (i / D) ≡ false → b i ≡ false
   silent m i x y h e =
       let t : ℕ = i / D in
-      let f = (reporting-first m).before t h in
-      let z : not (eqb (get_or begins t 0) 65535) ≡ false = rw (le-leb m t (slot-from D pos i m x), e) at f in
+      let f = (reporting_first m).before t h in
+      let z : not (eqb (get_or begins t 0) 65535) ≡ false = rw (le-leb m t (slot_from D pos i m x), e) at f in
       let w : get_or begins t 0 ≡ 65535 = eqb-true _ 65535 (not-false _ z) in
-      let d : D * t + (i - D * t) ≡ i = omega (arith, slot-low D pos i) in
-      rw d at ((told t (slot-below D pos i n y)).none w (i - D * t) (omega (arith, slot-low D pos i, slot-high D pos i)))
+      let d : D * t + (i - D * t) ≡ i = omega (arith, slot_low D pos i) in
+      rw d at ((told t (slot_below D pos i n y)).none w (i - D * t) (omega (arith, slot_low D pos i, slot_high D pos i)))
 
-  quiet-either : (i : ℕ) → i < D * n → (lostSlot lost (i / D) ≡ false → b i ≡ false) → Quiet i
-  quiet-either i l h = go (lostSlot lost (i / D)) refl
+  quiet_either : (i : ℕ) → i < D * n → (lost_slot lost (i / D) ≡ false → b i ≡ false) → Quiet i
+  quiet_either i l h = go (lost_slot lost (i / D)) refl
     where
-      go : (t : Bool) → lostSlot lost (i / D) ≡ t → Quiet i
-      go true e = quiet-lost i (i / D) (slot-below D pos i n l) (omega arith) (omega (arith, slot-low D pos i, size-least o i)) e
+      go : (t : Bool) → lost_slot lost (i / D) ≡ t → Quiet i
+      go true e = quiet_lost i (i / D) (slot_below D pos i n l) (omega arith) (omega (arith, slot_low D pos i, size_least o i)) e
       go false e = quiet_none i (h e)
 
-  on-from : (m : ℕ) → OnFrom m (onFrom D n lost begins m)
-  unfolding onFrom
-  on-from m = go (ltb (reporting n lost begins m) n) refl
+  on_from_law : (m : ℕ) → OnFrom m (on_from D n lost begins m)
+  unfolding on_from
+  on_from_law m = go (ltb (reporting n lost begins m) n) refl
     where
       s : ℕ
       s = reporting n lost begins m
@@ -186,10 +186,10 @@ module _ (D n : ℕ) (pos : 0 < D) (lost begins : List ℕ) (o : ℕ → ℕ) (b
       go true e =
           let s : ℕ = reporting n lost begins m in
           let l : s < n = ltb-true s n e in
-          let t = (reporting-first m).there l in
+          let t = (reporting_first m).there l in
           let a : m ≤ s = leb-true m s (and_left (leb m s) _ t) in
           let u = and_right (leb m s) _ t in
-          let w : get_or begins s 0 ≡ 65535 → ⊥ = λ z. eqb-false _ 65535 (Rattle.lists.specs.ChoiceLaws.false_of _ (λ y. clash _ (borrow.Author.Tests.not-true _ (and_right (not (lostSlot lost s)) _ u)) y)) z in
+          let w : get_or begins s 0 ≡ 65535 → ⊥ = λ z. eqb-false _ 65535 (Rattle.lists.specs.ChoiceLaws.false_of _ (λ y. clash _ (borrow.Author.Tests.not-true _ (and_right (not (lost_slot lost s)) _ u)) y)) z in
           let k = told s l in
           let c : get_or begins s 0 < D = k.inside w in
           let x : D * (s + 1) ≤ D * n = mul-le-mul_left D (omega arith) in
@@ -198,17 +198,17 @@ module _ (D n : ℕ) (pos : 0 < D) (lost begins : List ℕ) (o : ℕ → ℕ) (b
             within = omega arith;
             from = λ _. omega arith;
             begin = λ _. k.begins w;
-            passed = λ i p q. quiet-either i (omega arith)
-                (λ g. within i p q (omega arith) c l g (slot-below D pos i (s + 1) (omega arith)) (dec_lt (i / D) s));
+            passed = λ i p q. quiet_either i (omega arith)
+                (λ g. within i p q (omega arith) c l g (slot_below D pos i (s + 1) (omega arith)) (dec_lt (i / D) s));
           }
         where
           within : (i : ℕ) → D * m ≤ i → i < D * reporting n lost begins m + get_or begins (reporting n lost begins m) 0 → i < D * n → get_or begins (reporting n lost begins m) 0 < D
-              → reporting n lost begins m < n → lostSlot lost (i / D) ≡ false → i / D < reporting n lost begins m + 1 → Dec (i / D < reporting n lost begins m) → b i ≡ false
+              → reporting n lost begins m < n → lost_slot lost (i / D) ≡ false → i / D < reporting n lost begins m + 1 → Dec (i / D < reporting n lost begins m) → b i ≡ false
           within i p q j c l g h (yes v) = silent m i p j v g
           within i p q j c l g h (no v) =
               let s : ℕ = reporting n lost begins m in
               let z : i / D ≡ s = omega arith in
-              let low : D * s ≤ i = rw z at (slot-low D pos i) in
+              let low : D * s ≤ i = rw z at (slot_low D pos i) in
               let d : D * s + (i - D * s) ≡ i = omega arith in
               rw d at ((told s l).before (i - D * s) (omega arith) (omega arith))
       go false e =
@@ -218,37 +218,37 @@ module _ (D n : ℕ) (pos : 0 < D) (lost begins : List ℕ) (o : ℕ → ℕ) (b
             within = omega arith;
             from = λ h. mul-le-mul_left D h;
             begin = λ h. absurd (omega arith);
-            passed = λ i p q. quiet-either i q (λ g. silent m i p q (omega (arith, slot-below D pos i n q)) g);
+            passed = λ i p q. quiet_either i q (λ g. silent m i p q (omega (arith, slot_below D pos i n q)) g);
           }
 
   -- what begins at p, and how the reading is known from the positions behind
   module _ (p : ℕ) (l : p < D * n) (t : b p ≡ true) (r : ℕ → Reading) (again : (q : ℕ) → p < q → q ≤ D * n → (q < D * n → b q ≡ true) → Good q (r q)) where
-    good-jump : (e : ℕ) → e ≤ p + size_at o p → meets D n lost p e < n → Good p (after r (on [] (onFrom D n lost begins (meets D n lost p e + 1))))
-    good-jump e h c =
+    good_jump : (e : ℕ) → e ≤ p + size_at o p → meets D n lost p e < n → Good p (after r (on [] (on_from D n lost begins (meets D n lost p e + 1))))
+    good_jump e h c =
         let k : ℕ = meets D n lost p e in
-        let q : ℕ = onFrom D n lost begins (k + 1) in
+        let q : ℕ = on_from D n lost begins (k + 1) in
         let w : Met D n lost p e k = met D n lost p e c in
-        let g : OnFrom (k + 1) q = on-from (k + 1) in
+        let g : OnFrom (k + 1) q = on_from_law (k + 1) in
         let f : D * (k + 1) ≤ q = g.from (omega arith) in
         let up : D * (p / D + 1) ≤ D * (k + 1) = mul-le-mul_left D (omega (arith, w.from)) in
-        let z : p < q = omega (arith, slot-high D pos p) in
-        let a : Quiet p = quiet-lost p k c w.from (omega (arith, w.before)) w.gone in
-        good-pass p q [] (r q) z a.none a.uncut (λ i x y. go i x y (dec_lt i (p + size_at o p)) (dec_lt i (D * (k + 1)))) (again q z g.within g.begin)
+        let z : p < q = omega (arith, slot_high D pos p) in
+        let a : Quiet p = quiet_lost p k c w.from (omega (arith, w.before)) w.gone in
+        good_pass p q [] (r q) z a.none a.uncut (λ i x y. go i x y (dec_lt i (p + size_at o p)) (dec_lt i (D * (k + 1)))) (again q z g.within g.begin)
       where
-        go : (i : ℕ) → p < i → i < onFrom D n lost begins (meets D n lost p e + 1) → Dec (i < p + size_at o p) → Dec (i < D * (meets D n lost p e + 1)) → Quiet i
+        go : (i : ℕ) → p < i → i < on_from D n lost begins (meets D n lost p e + 1) → Dec (i < p + size_at o p) → Dec (i < D * (meets D n lost p e + 1)) → Quiet i
         go i x y (yes m) d = quiet_none i ((honest p t).between i x m)
         go i x y (no m) (yes v) =
             let k : ℕ = meets D n lost p e in
             let w : Met D n lost p e k = met D n lost p e c in
-            let a : i / D < k + 1 = slot-below D pos i (k + 1) v in
-            quiet-lost i k c (omega arith) (omega (arith, w.before)) w.gone
-        go i x y (no m) (no v) = (on-from (meets D n lost p e + 1)).passed i (omega arith) y
+            let a : i / D < k + 1 = slot_below D pos i (k + 1) v in
+            quiet_lost i k c (omega arith) (omega (arith, w.before)) w.gone
+        go i x y (no m) (no v) = (on_from_law (meets D n lost p e + 1)).passed i (omega arith) y
 
-    good-cut : (e : ℕ) → e ≤ p + size_at o p → n ≤ meets D n lost p e → D * n < e → Good p (after r (stop p))
+    good_cut : (e : ℕ) → e ≤ p + size_at o p → n ≤ meets D n lost p e → D * n < e → Good p (after r (stop p))
     unfolding arrives cut_at untouched
-    good-cut e h c m =
+    good_cut e h c m =
         let d : n ≤ meets D n lost p (p + size_at o p) = past (dec_lt (meets D n lost p (p + size_at o p)) n) in
-        good-stop p l
+        good_stop p l
         (rw (t, le-ltb _ n d, lt-leb (p + size_at o p) (D * n) (omega arith)))
         (rw (t, le-ltb _ n d, lt-ltb (D * n) (p + size_at o p) (omega arith)))
         (λ i x y. quiet_none i ((honest p t).between i x (omega arith)))
@@ -258,37 +258,37 @@ module _ (D n : ℕ) (pos : 0 < D) (lost begins : List ℕ) (o : ℕ → ℕ) (b
             let w = met D n lost p (p + size_at o p) v in
             let k : ℕ = meets D n lost p (p + size_at o p) in
             let z : D * k ≤ D * n = mul-le-mul_left D (omega arith) in
-            absurd (let y = meets-lost D n lost p e k v w.from (omega arith) w.gone in omega arith)
+            absurd (let y = meets_lost D n lost p e k v w.from (omega arith) w.gone in omega arith)
         past (no v) = omega arith
 
-    good-whole : (e : ℕ) (s : Step) → e ≤ p + size_at o p → (n ≤ meets D n lost p e → e ≤ D * n → Good p (after r s)) → Good p (after r (whole D n lost begins p e s))
+    good_whole : (e : ℕ) (s : Step) → e ≤ p + size_at o p → (n ≤ meets D n lost p e → e ≤ D * n → Good p (after r s)) → Good p (after r (whole D n lost begins p e s))
     unfolding whole
-    good-whole e s h k = go (ltb (meets D n lost p e) n) (ltb (D * n) e) refl refl
+    good_whole e s h k = go (ltb (meets D n lost p e) n) (ltb (D * n) e) refl refl
       where
         go : (x y : Bool) → ltb (meets D n lost p e) n ≡ x → ltb (D * n) e ≡ y
-            → Good p (after r (pick x (on [] (onFrom D n lost begins (meets D n lost p e + 1))) (pick y (stop p) s)))
-        go true y u v = good-jump e h (ltb-true _ n u)
-        go false true u v = good-cut e h (ltb-false _ n u) (ltb-true (D * n) e v)
+            → Good p (after r (pick x (on [] (on_from D n lost begins (meets D n lost p e + 1))) (pick y (stop p) s)))
+        go true y u v = good_jump e h (ltb-true _ n u)
+        go false true u v = good_cut e h (ltb-false _ n u) (ltb-true (D * n) e v)
         go false false u v = k (ltb-false _ n u) (ltb-false (D * n) e v)
 
-    pick-not : (x : Bool) (u v : List ℕ) → pick (not x) u v ≡ pick x v u
-    pick-not true u v = refl
-    pick-not false u v = refl
+    pick_not : (x : Bool) (u v : List ℕ) → pick (not x) u v ≡ pick x v u
+    pick_not true u v = refl
+    pick_not false u v = refl
 
-    good-step : Good p (after r (step D n lost begins o p))
+    good_step : Good p (after r (step D n lost begins o p))
     unfolding step arrives cut_at untouched
-    good-step =
-        let four = size-least o p in
+    good_step =
+        let four = size_least o p in
         let h = honest p t in
         rw (ne_eqb p (D * n) (omega arith))
-        (good-whole (p + 4) _ (omega arith)
+        (good_whole (p + 4) _ (omega arith)
         (λ c m.
         rw h.head
-        (good-whole (p + size_at o p) _ (omega arith)
+        (good_whole (p + size_at o p) _ (omega arith)
         (λ d k.
         rw h.body
-        (good-pass p (p + size_at o p) (pick (emptyNull o p) [] (run o p (size_at o p))) (r (p + size_at o p)) (omega arith)
-        (rw (t, le-ltb (meets D n lost p (p + size_at o p)) n d, le-leb (p + size_at o p) (D * n) k) (pick-not (emptyNull o p) (run o p (size_at o p)) []))
+        (good_pass p (p + size_at o p) (pick (empty_null o p) [] (run o p (size_at o p))) (r (p + size_at o p)) (omega arith)
+        (rw (t, le-ltb (meets D n lost p (p + size_at o p)) n d, le-leb (p + size_at o p) (D * n) k) (pick_not (empty_null o p) (run o p (size_at o p)) []))
         (rw (t, le-ltb (meets D n lost p (p + size_at o p)) n d, le-ltb (D * n) (p + size_at o p) k))
         (λ i x y. quiet_none i (h.between i x y))
         (again (p + size_at o p) (omega arith) k (λ _. h.next)))))))
@@ -297,40 +297,40 @@ module _ (D n : ℕ) (pos : 0 < D) (lost begins : List ℕ) (o : ℕ → ℕ) (b
   unfolding step
   step_end p e = rw (eq-eqb p (D * n) e)
 
-  good-end : (r : ℕ → Reading) (p : ℕ) → p ≡ D * n → Good p (after r (step D n lost begins o p))
-  good-end r p e = rw (step_end p e) (good-done p e p e)
+  good_end : (r : ℕ → Reading) (p : ℕ) → p ≡ D * n → Good p (after r (step D n lost begins o p))
+  good_end r p e = rw (step_end p e) (good_done p e p e)
 
   good : (f p : ℕ) → p ≤ D * n → D * n ≤ p + f → (p < D * n → b p ≡ true) → Good p (read D n lost begins o f p)
   unfolding read
-  good zero p l m t = good-done p (omega arith) (D * n) refl
+  good zero p l m t = good_done p (omega arith) (D * n) refl
   good (suc f) p l m t = go (λ q x y z. good f q y (omega arith) z) (dec_lt p (D * n))
     where
       go : ((q : ℕ) → p < q → q ≤ D * n → (q < D * n → b q ≡ true) → Good q (read D n lost begins o f q)) → Dec (p < D * n)
           → Good p (after (read D n lost begins o f) (step D n lost begins o p))
-      go again (yes k) = good-step p k (t k) (read D n lost begins o f) again
-      go again (no k) = good-end (read D n lost begins o f) p (omega arith)
+      go again (yes k) = good_step p k (t k) (read D n lost begins o f) again
+      go again (no k) = good_end (read D n lost begins o f) p (omega arith)
 
   module _ (f : ℕ) (from : (f ≡ 65535 → ⊥) → (f < D) × (b f ≡ true)) (some : 0 < n) where
     inside : (f ≡ 65535 → ⊥) → f < D * n
     inside h = let m : D * 1 ≤ D * n = mul-le-mul_left D some in omega (arith, (from h).0)
 
-    good_start : Good (readFrom f) (read D n lost begins o (D * n) (start D n lost begins f))
+    good_start : Good (read_from f) (read D n lost begins o (D * n) (start D n lost begins f))
     unfolding start
     good_start = go (eqb f 65535) refl
       where
-        go : (t : Bool) → eqb f 65535 ≡ t → Good (pick t 0 f) (read D n lost begins o (D * n) (pick t (onFrom D n lost begins 0) f))
+        go : (t : Bool) → eqb f 65535 ≡ t → Good (pick t 0 f) (read D n lost begins o (D * n) (pick t (on_from D n lost begins 0) f))
         go true e =
-            let g = on-from 0 in
-            let q : ℕ = onFrom D n lost begins 0 in
-            good-skip 0 q _ (omega arith) (λ i x y. g.passed i (omega arith) y) (good (D * n) q g.within (omega arith) g.begin)
+            let g = on_from_law 0 in
+            let q : ℕ = on_from D n lost begins 0 in
+            good_skip 0 q _ (omega arith) (λ i x y. g.passed i (omega arith) y) (good (D * n) q g.within (omega arith) g.begin)
         go false e =
             let h = eqb-false f 65535 e in
             good (D * n) f (omega (arith, inside h)) (omega arith) (λ _. (from h).1)
 
     -- what is cut behind the first octet to read does not begin before it
-    uncut-before : (i : ℕ) → i < readFrom f → cut_at D n lost o b i ≡ false
+    uncut_before : (i : ℕ) → i < read_from f → cut_at D n lost o b i ≡ false
     unfolding cut_at untouched
-    uncut-before i = go (eqb f 65535) refl
+    uncut_before i = go (eqb f 65535) refl
       where
         past : (f ≡ 65535 → ⊥) → i < f → (t u : Bool) → b i ≡ t → ltb (D * n) (i + size_at o i) ≡ u
             → ((b i && not (ltb (meets D n lost i (i + size_at o i)) n)) && ltb (D * n) (i + size_at o i)) ≡ false
@@ -343,26 +343,26 @@ module _ (D n : ℕ) (pos : 0 < D) (lost begins : List ℕ) (o : ℕ → ℕ) (b
         go true e l = absurd (omega arith)
         go false e l = past (eqb-false f 65535 e) l _ _ refl refl
 
-    pub read-honest : read D n lost begins o (D * n) (start D n lost begins f)
+    pub read_honest : read D n lost begins o (D * n) (start D n lost begins f)
         ≡ record {
-          written = joined (D * n) (λ i. pick (leb (readFrom f) i) (arrives D n lost o b i) []);
+          written = joined (D * n) (λ i. pick (leb (read_from f) i) (arrives D n lost o b i) []);
           unfinished = first (D * n) (cut_at D n lost o b);
         }
-    read-honest =
+    read_honest =
         let g = good_start in
-        let p : ℕ = readFrom f in
+        let p : ℕ = read_from f in
         let r : Reading = read D n lost begins o (D * n) (start D n lost begins f) in
         let low = g.low in
         let high = g.high in
         let w : joined (D * n) (λ i. pick (leb p i) (arrives D n lost o b i) []) ≡ r.written
-        = append-same (joined p (arrives D n lost o b)) _ _ (sym (joined-from (arrives D n lost o b) p (D * n) (omega arith)) ∙ g.rest) in
+        = append_same (joined p (arrives D n lost o b)) _ _ (sym (joined_from (arrives D n lost o b) p (D * n) (omega arith)) ∙ g.rest) in
         let u : first (D * n) (cut_at D n lost o b) ≡ r.unfinished
-        = first-is (D * n) _ r.unfinished (record { within = high; before = λ k l. before g k l (dec_lt k p); there = g.there }) in
+        = first_is (D * n) _ r.unfinished (record { within = high; before = λ k l. before g k l (dec_lt k p); there = g.there }) in
         same r _ _ w u
       where
-        before : Good (readFrom f) (read D n lost begins o (D * n) (start D n lost begins f)) → (k : ℕ) → k < (read D n lost begins o (D * n) (start D n lost begins f)).unfinished
-            → Dec (k < readFrom f) → cut_at D n lost o b k ≡ false
-        before g k l (yes m) = uncut-before k m
+        before : Good (read_from f) (read D n lost begins o (D * n) (start D n lost begins f)) → (k : ℕ) → k < (read D n lost begins o (D * n) (start D n lost begins f)).unfinished
+            → Dec (k < read_from f) → cut_at D n lost o b k ≡ false
+        before g k l (yes m) = uncut_before k m
         before g k l (no m) = g.before k (omega arith) l
 
         same : (r : Reading) (xs : List ℕ) (k : ℕ) → xs ≡ r.written → k ≡ r.unfinished → r ≡ record { written = xs; unfinished = k }

@@ -3,8 +3,8 @@ use Rattle.std.specs.Prelude.{Bool, not, ◌&&◌, List, [], ℕ, ◌+◌, ◌-�
 use Rattle.lists.specs.Choice.{pick}
 use Rattle.lists.specs.Count.{first, joined}
 use Rattle.lists.specs.Parts.{part}
-use Rattle.tlv.specs.Packets.{octets, size_at, emptyNull, headAt}
-use Rattle.tlv.specs.Fill.{none, streamAt, streamBegins}
+use Rattle.tlv.specs.Packets.{octets, size_at, empty_null, head_at}
+use Rattle.tlv.specs.Fill.{none, stream_at, stream_begins}
 use Rattle.tlv.specs.Read.{meets}
 
 -- of slots' octets o, in which b says what begins: a packet or filler begins at i and touches no lost slot
@@ -18,33 +18,33 @@ cut_at D n lost o b i = untouched D n lost o b i && ltb (D * n) (i + size_at o i
 module _ (D n : ℕ) (lost packets : List ℕ) (taken owed : ℕ) where
   -- the packet at octet j of those lent, where it was not taken before, lies whole in the slots, touches no lost slot and is
   -- no empty null; octet j stands in the slots at owed + (j - taken)
-  unfoldable pub sentPacket : ℕ → List ℕ
-  sentPacket j =
+  unfoldable pub sent_packet : ℕ → List ℕ
+  sent_packet j =
       pick
       (leb taken j
-      && (headAt packets j
+      && (head_at packets j
       && (not (ltb (meets D n lost (owed + (j - taken)) (owed + (j - taken) + size_at (octets packets) j)) n)
-      && (leb (owed + (j - taken) + size_at (octets packets) j) (D * n) && not (emptyNull (octets packets) j)))))
+      && (leb (owed + (j - taken) + size_at (octets packets) j) (D * n) && not (empty_null (octets packets) j)))))
       (part j (j + size_at (octets packets) j) packets)
       []
 
   -- "Reading returns the packets in order without empty nulls, the caller's own included"
-  abbrev pub sentPackets : List ℕ
-  sentPackets = joined (length packets) sentPacket
+  abbrev pub sent_packets : List ℕ
+  sent_packets = joined (length packets) sent_packet
 
   -- "the first octet to read": those of them that begin at octet f of the slots or behind it
-  abbrev pub sentFrom : ℕ → List ℕ
-  sentFrom f = joined (length packets) (λ j. pick (leb f (owed + (j - taken))) (sentPacket j) [])
+  abbrev pub sent_from : ℕ → List ℕ
+  sent_from f = joined (length packets) (λ j. pick (leb f (owed + (j - taken))) (sent_packet j) [])
 
   -- "where in the lent slots an unfinished last packet or null begins (the slots' length if none)"
-  abbrev pub sentCut : ℕ
-  sentCut = first (D * n) (cut_at D n lost (streamAt packets taken owed) (streamBegins packets taken owed))
+  abbrev pub sent_cut : ℕ
+  sent_cut = first (D * n) (cut_at D n lost (stream_at packets taken owed) (stream_begins packets taken owed))
 
 -- "the first octet to read (65535 for the first reported beginning)": before that one no packet begins, so none is left out
-abbrev pub readFrom : ℕ → ℕ
-readFrom f = pick (eqb f none) 0 f
+abbrev pub read_from : ℕ → ℕ
+read_from f = pick (eqb f none) 0 f
 
 -- every packet from `taken` on that is no empty null
-unfoldable pub plainPacket : List ℕ → ℕ → ℕ → List ℕ
-plainPacket packets taken j =
-    pick (leb taken j && (headAt packets j && not (emptyNull (octets packets) j))) (part j (j + size_at (octets packets) j) packets) []
+unfoldable pub plain_packet : List ℕ → ℕ → ℕ → List ℕ
+plain_packet packets taken j =
+    pick (leb taken j && (head_at packets j && not (empty_null (octets packets) j))) (part j (j + size_at (octets packets) j) packets) []

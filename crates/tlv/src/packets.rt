@@ -1,6 +1,6 @@
 // Head and body of a packet.
 ghost use Rattle.std.specs.Prelude.{◌≡◌, ◌+◌, ◌≤◌, ◌<◌, length};
-ghost use Rattle.tlv.specs.Packets.{octets, typeOk, headOk, size_at, bodyOk};
+ghost use Rattle.tlv.specs.Packets.{octets, type_ok, head_ok, size_at, body_ok};
 
 use crate::NULL;
 
@@ -9,7 +9,7 @@ const MARK: u8 = 0x7F;
 
 // Whether a type is known.
 fn type_ok(kind: u8) -> bool
-    ensures { result ≡ typeOk kind }
+    ensures { result ≡ type_ok kind }
 {
     if kind == 0x01 {
         return true;
@@ -29,7 +29,7 @@ fn type_ok(kind: u8) -> bool
 // Whether the head at p is right.
 pub fn head_ok(lent: &[u8], p: usize) -> bool
     requires { p + 4 ≤ length lent.now }
-    ensures { result ≡ headOk (octets lent.now) p }
+    ensures { result ≡ head_ok (octets lent.now) p }
 {
     if lent[p] != MARK {
         return false;
@@ -50,7 +50,7 @@ pub fn size_at(lent: &[u8], p: usize) -> usize
 // Whether a null's body is right; other bodies are.
 pub fn body_ok(lent: &[u8], p: usize, size: usize) -> bool
     requires { (p + size ≤ length lent.now) × (size ≡ size_at (octets lent.now) p) × (4 ≤ size) }
-    ensures { result ≡ bodyOk (octets lent.now) p }
+    ensures { result ≡ body_ok (octets lent.now) p }
 {
     if lent[p + 1] != NULL {
         return true;

@@ -1,6 +1,6 @@
 -- What the functions ask of their arguments.
 use Rattle.std.specs.Prelude.{◌≡◌, true, List, ℕ, ◌*◌, ◌<◌, ◌≤◌, length}
-use Rattle.tlv.specs.Packets.{packetsOk}
+use Rattle.tlv.specs.Packets.{packets_ok}
 
 pub record LayNeeds (packets : List ℕ) (taken owed : ℕ) (slots : List ℕ) : Type 0 where
   pub within : taken ≤ length packets
@@ -8,7 +8,7 @@ pub record LayNeeds (packets : List ℕ) (taken owed : ℕ) (slots : List ℕ) :
   pub room : owed ≤ length slots
 
 pub record MarkNeeds (D : ℕ) (packets : List ℕ) (taken owed : ℕ) (begins : List ℕ) : Type 0 where
-  pub right : packetsOk packets ≡ true
+  pub right : packets_ok packets ≡ true
   pub low : 16 ≤ D
   pub high : D ≤ 65535
   pub within : taken ≤ length packets

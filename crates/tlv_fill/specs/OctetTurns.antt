@@ -3,50 +3,50 @@ use Rattle.std.specs.Prelude.{◌≡◌, refl, List, ◌++◌, ℕ, ◌+◌, ◌
 use Rattle.std.proofs.Common.{sym, ap, ◌∙◌, arith, lt-ltb, le-ltb}
 use borrow.Rule.Slice.PartMut.{put_mid}
 use Rattle.lists.specs.Count.{table}
-use Rattle.lists.specs.CountLaws.{length-table, table_same, table-split}
+use Rattle.lists.specs.CountLaws.{length_table, table_same, table_split}
 use Rattle.lists.specs.Parts.{part}
-use Rattle.lists.specs.PartLaws.{length_part, three-parts}
+use Rattle.lists.specs.PartLaws.{length_part, three_parts}
 use Rattle.tlv.specs.Packets.{octets, run}
-use Rattle.tlv.specs.Fill.{filler, sentAt, streamAt, filled}
-use Rattle.tlv.specs.FillLaws.{sent-behind}
-use Rattle.tlv.specs.Honest.{sent-within}
-use Rattle.tlv.specs.SentLaws.{part-run}
+use Rattle.tlv.specs.Fill.{filler, sent_at, stream_at, filled}
+use Rattle.tlv.specs.FillLaws.{sent_behind}
+use Rattle.tlv.specs.Honest.{sent_within}
+use Rattle.tlv.specs.SentLaws.{part_run}
 use Rattle.tlv_fill.specs.Needs.{LayNeeds}
 
-filled-pieces : (packets : List ℕ) (taken owed m r : ℕ) → taken + m ≤ length packets → (0 < r → taken + m ≡ length packets)
+filled_pieces : (packets : List ℕ) (taken owed m r : ℕ) → taken + m ≤ length packets → (0 < r → taken + m ≡ length packets)
     → filled packets taken owed (owed + (m + r)) ≡ run (octets filler) (4 - owed) owed ++ (part taken (taken + m) packets ++ table r (λ i. get_or filler (i % 4) 0))
-unfolding filled streamAt
-filled-pieces packets taken owed m r within all =
-    table-split owed (m + r) (streamAt packets taken owed)
-    ∙ ap (λ (xs : List ℕ). xs ++ table (m + r) (λ i. streamAt packets taken owed (owed + i))) (table_same owed _ _ (λ k l. rw (lt-ltb k owed l)))
+unfolding filled stream_at
+filled_pieces packets taken owed m r within all =
+    table_split owed (m + r) (stream_at packets taken owed)
+    ∙ ap (λ (xs : List ℕ). xs ++ table (m + r) (λ i. stream_at packets taken owed (owed + i))) (table_same owed _ _ (λ k l. rw (lt-ltb k owed l)))
     ∙ ap (λ (xs : List ℕ). run (octets filler) (4 - owed) owed ++ xs)
-    (table_same (m + r) _ (λ i. sentAt packets (taken + i)) (λ k l. let e : owed + k - owed ≡ k = omega arith in rw (le-ltb (owed + k) owed (omega arith), e))
-    ∙ table-split m r (λ i. sentAt packets (taken + i))
-    ∙ ap (λ (xs : List ℕ). xs ++ table r (λ i. sentAt packets (taken + (m + i))))
-    (table_same m _ (λ i. octets packets (taken + i)) (λ k l. sent-within packets (taken + k) (omega arith)) ∙ sym (part-run taken m packets within))
+    (table_same (m + r) _ (λ i. sent_at packets (taken + i)) (λ k l. let e : owed + k - owed ≡ k = omega arith in rw (le-ltb (owed + k) owed (omega arith), e))
+    ∙ table_split m r (λ i. sent_at packets (taken + i))
+    ∙ ap (λ (xs : List ℕ). xs ++ table r (λ i. sent_at packets (taken + (m + i))))
+    (table_same m _ (λ i. octets packets (taken + i)) (λ k l. sent_within packets (taken + k) (omega arith)) ∙ sym (part_run taken m packets within))
     ∙ ap (λ (xs : List ℕ). part taken (taken + m) packets ++ xs)
     (table_same r _ (λ i. get_or filler (i % 4) 0)
     (λ k l.
     let a = all (omega arith) in
     let e : (taken + (m + k) - length packets) ≡ k = omega arith in
-    sent-behind packets (taken + (m + k)) (omega arith) ∙ ap (λ (x : ℕ). get_or filler (x % 4) 0) e)))
+    sent_behind packets (taken + (m + k)) (omega arith) ∙ ap (λ (x : ℕ). get_or filler (x % 4) 0) e)))
 
 -- three pieces that were put one behind the other, m octets of packets as many as there are and as there is room for
 module _ (packets : List ℕ) (taken owed m : ℕ) (slots : List ℕ) (needs : LayNeeds packets taken owed slots) (fewest : m ≡ min (length packets - taken) (length slots - owed)) where
-  pub laid-pieces : (a b d : List ℕ) (x z : ℕ)
+  pub laid_pieces : (a b d : List ℕ) (x z : ℕ)
       → a ≡ table x (λ i. get_or filler ((4 - owed + i) % 4) 0) → x ≡ owed
       → b ≡ part taken (taken + m) packets
       → d ≡ table z (λ i. get_or filler ((0 + i) % 4) 0) → z ≡ length slots - (owed + m)
       → put_mid (owed + m) (length slots - (owed + m)) (put_mid owed (owed + m - owed) (put_mid 0 (owed - 0) slots a) b) d
       ≡ filled packets taken owed (length slots)
-  laid-pieces a b d x z ea ex eb ed ez =
+  laid_pieces a b d x z ea ex eb ed ez =
       let within = needs.within in
       let few = needs.few in
       let room = needs.room in
       let r : ℕ = length slots - (owed + m) in
-      let la : length a ≡ owed = ap length ea ∙ length-table x (λ i. get_or filler ((4 - owed + i) % 4) 0) ∙ ex in
+      let la : length a ≡ owed = ap length ea ∙ length_table x (λ i. get_or filler ((4 - owed + i) % 4) 0) ∙ ex in
       let lb : length b ≡ m = ap length eb ∙ length_part taken (taken + m) packets (omega arith) ∙ omega arith in
-      let ld : length d ≡ r = ap length ed ∙ length-table z (λ i. get_or filler ((0 + i) % 4) 0) ∙ ez in
+      let ld : length d ≡ r = ap length ed ∙ length_table z (λ i. get_or filler ((0 + i) % 4) 0) ∙ ez in
       let all : owed + (m + r) ≡ length slots = omega arith in
       let front : a ≡ run (octets filler) (4 - owed) owed
       = ea ∙ ap (λ (n : ℕ). table n (λ i. get_or filler ((4 - owed + i) % 4) 0)) ex
@@ -54,9 +54,9 @@ module _ (packets : List ℕ) (taken owed m : ℕ) (slots : List ℕ) (needs : L
       let back : d ≡ table r (λ i. get_or filler (i % 4) 0)
       = ed ∙ ap (λ (n : ℕ). table n (λ i. get_or filler ((0 + i) % 4) 0)) ez
       ∙ table_same r _ _ (λ k l. let e : 0 + k ≡ k = omega arith in ap (λ (n : ℕ). get_or filler (n % 4) 0) e) in
-      three-parts slots a b d owed (owed + m) (length slots) refl (omega arith) (omega arith) (la ∙ omega arith) (lb ∙ omega arith) ld
+      three_parts slots a b d owed (owed + m) (length slots) refl (omega arith) (omega arith) (la ∙ omega arith) (lb ∙ omega arith) ld
       ∙ ap (λ (n : List ℕ). n ++ (b ++ d)) front
       ∙ ap (λ (n : List ℕ). run (octets filler) (4 - owed) owed ++ (n ++ d)) eb
       ∙ ap (λ (n : List ℕ). run (octets filler) (4 - owed) owed ++ (part taken (taken + m) packets ++ n)) back
-      ∙ sym (filled-pieces packets taken owed m r (omega arith) (λ h. omega arith))
+      ∙ sym (filled_pieces packets taken owed m r (omega arith) (λ h. omega arith))
       ∙ ap (filled packets taken owed) all

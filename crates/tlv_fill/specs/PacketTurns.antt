@@ -7,64 +7,64 @@ use Prim.Native.Nat.{ℕ, zero, suc, ◌+◌, ◌<◌, ◌≤◌}
 use native.Mathlib.Omega.{arith}
 use borrow.Author.Tests.{eq-eqb, ne_eqb, le-leb, lt-leb, leb-true}
 use Rattle.std.proofs.Math.Dec.{eqb, leb}
-use Rattle.tlv.specs.Packets.{headOk, size_at, bodyOk, packetsFrom}
-use Rattle.tlv.specs.PacketLaws.{size-least}
+use Rattle.tlv.specs.Packets.{head_ok, size_at, body_ok, packets_from}
+use Rattle.tlv.specs.PacketLaws.{size_least}
 
 module _ (o : ℕ → ℕ) (L : ℕ) where
   -- one packet
-  unfoldable acceptStep : ℕ → Bool → Bool
-  acceptStep h rest = leb (h + 4) L && (headOk o h && (leb (h + size_at o h) L && (bodyOk o h && rest)))
+  unfoldable accept_step : ℕ → Bool → Bool
+  accept_step h rest = leb (h + 4) L && (head_ok o h && (leb (h + size_at o h) L && (body_ok o h && rest)))
 
-  accept-same : (h : ℕ) (s t : Bool) → (h + size_at o h ≤ L → s ≡ t) → acceptStep h s ≡ acceptStep h t
-  unfolding acceptStep
-  accept-same h s t f = go (leb (h + size_at o h) L) refl
+  accept_same : (h : ℕ) (s t : Bool) → (h + size_at o h ≤ L → s ≡ t) → accept_step h s ≡ accept_step h t
+  unfolding accept_step
+  accept_same h s t f = go (leb (h + size_at o h) L) refl
     where
-      go : (x : Bool) → leb (h + size_at o h) L ≡ x → (leb (h + 4) L && (headOk o h && (x && (bodyOk o h && s)))) ≡ (leb (h + 4) L && (headOk o h && (x && (bodyOk o h && t))))
+      go : (x : Bool) → leb (h + size_at o h) L ≡ x → (leb (h + 4) L && (head_ok o h && (x && (body_ok o h && s)))) ≡ (leb (h + 4) L && (head_ok o h && (x && (body_ok o h && t))))
       go true e = rw (f (leb-true (h + size_at o h) L e))
       go false e = refl
 
   -- any number of packets that is enough
-  accept-enough : (f g h : ℕ) → h ≤ L → L ≤ h + f → L ≤ h + g → packetsFrom o L f h ≡ packetsFrom o L g h
-  unfolding packetsFrom acceptStep
-  accept-enough zero zero h l a b = refl
-  accept-enough zero (suc g) h l a b = let e : h ≡ L = omega arith in rw (eq-eqb h L e)
-  accept-enough (suc f) zero h l a b = let e : h ≡ L = omega arith in rw (eq-eqb h L e)
-  accept-enough (suc f) (suc g) h l a b =
-      let four = size-least o h in
+  accept_enough : (f g h : ℕ) → h ≤ L → L ≤ h + f → L ≤ h + g → packets_from o L f h ≡ packets_from o L g h
+  unfolding packets_from accept_step
+  accept_enough zero zero h l a b = refl
+  accept_enough zero (suc g) h l a b = let e : h ≡ L = omega arith in rw (eq-eqb h L e)
+  accept_enough (suc f) zero h l a b = let e : h ≡ L = omega arith in rw (eq-eqb h L e)
+  accept_enough (suc f) (suc g) h l a b =
+      let four = size_least o h in
       ap (λ (t : Bool). eqb h L || t)
-      (accept-same h _ _ (λ m. accept-enough f g (h + size_at o h) m (omega arith) (omega arith)))
+      (accept_same h _ _ (λ m. accept_enough f g (h + size_at o h) m (omega arith) (omega arith)))
 
   -- as a loop has it
-  accept-loop : (h : ℕ) → h < L → packetsFrom o L L h ≡ acceptStep h (packetsFrom o L L (h + size_at o h))
-  unfolding packetsFrom acceptStep
-  accept-loop h l =
-      accept-enough L (suc L) h (omega arith) (omega arith) (omega arith)
+  accept_loop : (h : ℕ) → h < L → packets_from o L L h ≡ accept_step h (packets_from o L L (h + size_at o h))
+  unfolding packets_from accept_step
+  accept_loop h l =
+      accept_enough L (suc L) h (omega arith) (omega arith) (omega arith)
       ∙ rw (ne_eqb h L (omega arith))
 
-  pub accept-end : (h : ℕ) → h ≡ L → packetsFrom o L L h ≡ true
-  unfolding packetsFrom
-  accept-end h e = go L refl
+  pub accept_end : (h : ℕ) → h ≡ L → packets_from o L L h ≡ true
+  unfolding packets_from
+  accept_end h e = go L refl
     where
-      go : (f : ℕ) → f ≡ f → packetsFrom o L f h ≡ true
+      go : (f : ℕ) → f ≡ f → packets_from o L f h ≡ true
       go zero d = eq-eqb h L e
       go (suc f) d = rw (eq-eqb h L e)
 
-  pub accept-short : (h : ℕ) → h < L → L < h + 4 → packetsFrom o L L h ≡ false
-  unfolding acceptStep
-  accept-short h l m = accept-loop h l ∙ rw (lt-leb (h + 4) L m)
+  pub accept_short : (h : ℕ) → h < L → L < h + 4 → packets_from o L L h ≡ false
+  unfolding accept_step
+  accept_short h l m = accept_loop h l ∙ rw (lt-leb (h + 4) L m)
 
-  pub accept-wrong : (h : ℕ) → h < L → h + 4 ≤ L → headOk o h ≡ false → packetsFrom o L L h ≡ false
-  unfolding acceptStep
-  accept-wrong h l m e = accept-loop h l ∙ rw (le-leb (h + 4) L m, e)
+  pub accept_wrong : (h : ℕ) → h < L → h + 4 ≤ L → head_ok o h ≡ false → packets_from o L L h ≡ false
+  unfolding accept_step
+  accept_wrong h l m e = accept_loop h l ∙ rw (le-leb (h + 4) L m, e)
 
-  pub accept-past : (h : ℕ) → h < L → h + 4 ≤ L → headOk o h ≡ true → L < h + size_at o h → packetsFrom o L L h ≡ false
-  unfolding acceptStep
-  accept-past h l m e k = accept-loop h l ∙ rw (le-leb (h + 4) L m, e, lt-leb (h + size_at o h) L k)
+  pub accept_past : (h : ℕ) → h < L → h + 4 ≤ L → head_ok o h ≡ true → L < h + size_at o h → packets_from o L L h ≡ false
+  unfolding accept_step
+  accept_past h l m e k = accept_loop h l ∙ rw (le-leb (h + 4) L m, e, lt-leb (h + size_at o h) L k)
 
-  pub accept-body : (h : ℕ) → h < L → h + 4 ≤ L → headOk o h ≡ true → h + size_at o h ≤ L → bodyOk o h ≡ false → packetsFrom o L L h ≡ false
-  unfolding acceptStep
-  accept-body h l m e k b = accept-loop h l ∙ rw (le-leb (h + 4) L m, e, le-leb (h + size_at o h) L k, b)
+  pub accept_body : (h : ℕ) → h < L → h + 4 ≤ L → head_ok o h ≡ true → h + size_at o h ≤ L → body_ok o h ≡ false → packets_from o L L h ≡ false
+  unfolding accept_step
+  accept_body h l m e k b = accept_loop h l ∙ rw (le-leb (h + 4) L m, e, le-leb (h + size_at o h) L k, b)
 
-  pub accept-more : (h : ℕ) → h < L → h + 4 ≤ L → headOk o h ≡ true → h + size_at o h ≤ L → bodyOk o h ≡ true → packetsFrom o L L h ≡ packetsFrom o L L (h + size_at o h)
-  unfolding acceptStep
-  accept-more h l m e k b = accept-loop h l ∙ rw (le-leb (h + 4) L m, e, le-leb (h + size_at o h) L k, b)
+  pub accept_more : (h : ℕ) → h < L → h + 4 ≤ L → head_ok o h ≡ true → h + size_at o h ≤ L → body_ok o h ≡ true → packets_from o L L h ≡ packets_from o L L (h + size_at o h)
+  unfolding accept_step
+  accept_more h l m e k b = accept_loop h l ∙ rw (le-leb (h + 4) L m, e, le-leb (h + size_at o h) L k, b)

@@ -1,6 +1,6 @@
 // The call: what it refuses, and what it fills.
 ghost use Rattle.std.specs.Prelude.{◌≡◌, length};
-ghost use Rattle.tlv.specs.Calls.{takenOk, fillLent, fillNumber, fillAnswer, fillSlots, fillBegins};
+ghost use Rattle.tlv.specs.Calls.{taken_ok, fill_lent, fill_number, fill_answer, fill_slots, fill_begins};
 
 use crate::begins::{beyond, mark_begins};
 use crate::octets::{fewer, lacking, lay};
@@ -9,7 +9,7 @@ use tlv::FillAnswer;
 
 // Whether so many octets of the packets can have been taken, with so many of a filler owed.
 fn taken_ok(length: usize, taken: usize, owed: usize) -> bool
-    ensures { result ≡ takenOk length taken owed }
+    ensures { result ≡ taken_ok length taken owed }
 {
     if length < taken {
         return false;
@@ -35,7 +35,7 @@ fn lent_number(
     octets: usize,
     reports: usize,
 ) -> u8
-    ensures { result ≡ fillLent rate length taken owed octets reports }
+    ensures { result ≡ fill_lent rate length taken owed octets reports }
 {
     if !plan::known(rate, plan::RATES) {
         return refusal::PLAN;
@@ -58,7 +58,7 @@ fn fill_number(
     slots: &[u8],
     begins: &[u16],
 ) -> u8
-    ensures { result ≡ fillNumber rate packets.now taken owed slots.now begins.now }
+    ensures { result ≡ fill_number rate packets.now taken owed slots.now begins.now }
 {
     let number = lent_number(rate, packets.len(), taken, owed, slots.len(), begins.len());
     if number != 0 {
@@ -80,9 +80,9 @@ pub fn fill(
     slots: &mut [u8],
     begins: &mut [u16],
 ) -> FillAnswer
-    ensures value { result ≡ fillAnswer rate packets.now taken owed slots.old begins.old }
-    ensures slots_after { slots.new ≡ fillSlots rate packets.now taken owed slots.old begins.old }
-    ensures begins_after { begins.new ≡ fillBegins rate packets.now taken owed slots.old begins.old }
+    ensures value { result ≡ fill_answer rate packets.now taken owed slots.old begins.old }
+    ensures slots_after { slots.new ≡ fill_slots rate packets.now taken owed slots.old begins.old }
+    ensures begins_after { begins.new ≡ fill_begins rate packets.now taken owed slots.old begins.old }
 {
     let number = fill_number(rate, packets, taken, owed, slots, begins);
     if number != 0 {

@@ -1,10 +1,10 @@
 // The test of the lent packets.
 ghost use Rattle.std.specs.Prelude.{◌≡◌};
-ghost use Rattle.tlv.specs.Packets.{packetsOk};
+ghost use Rattle.tlv.specs.Packets.{packets_ok};
 
 // Whether the packets are right, end to end.
 pub fn packets_ok(packets: &[u8]) -> bool
-    ensures { result ≡ packetsOk packets.now }
+    ensures { result ≡ packets_ok packets.now }
 {
     let total = packets.len();
     let mut h: usize = 0;

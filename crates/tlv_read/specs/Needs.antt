@@ -33,8 +33,8 @@ pub record Whole (D n : ℕ) (lost begins : List ℕ) (p e : ℕ) (there ends : 
   pub is : (s : Step) → whole D n lost begins p e s ≡ pick there s (pick ends (stop at) (on [] at))
 
 -- the octets of a packet that are written: "without empty nulls"
-abbrev pub keptOf : ℕ → ℕ → ℕ
-keptOf kind size = pick (eqb kind 0xFF && eqb size 4) 0 size
+abbrev pub kept_of : ℕ → ℕ → ℕ
+kept_of kind size = pick (eqb kind 0xFF && eqb size 4) 0 size
 
 pub record Lent (D n : ℕ) (slots lost begins : List ℕ) (p : ℕ) : Type 0 where
   pub reported : Reported D n lost begins

@@ -6,12 +6,12 @@ use mathlib.Core.List.{List, [], ◌++◌, append-nil, append_assoc}
 use Rattle.std.proofs.Math.ListN.{length, take, drop, take-append-drop}
 use Rattle.std.proofs.Math.Seq.{length-take-le, drop-drop}
 use Rattle.lists.specs.Parts.{part, put}
-use Rattle.lists.specs.PartLaws.{take-put-end, drop-put, length-put}
-use Rattle.lists.specs.CountLaws.{length-table}
+use Rattle.lists.specs.PartLaws.{take_put_end, drop_put, length_put}
+use Rattle.lists.specs.CountLaws.{length_table}
 use Rattle.tlv.specs.Packets.{octets, run}
 use Rattle.tlv.specs.Read.{on, step, Reading, after, read}
-use Rattle.tlv.specs.ReadForward.{Inside, Forward, forward, read-enough, read-loop}
-use Rattle.tlv.specs.SentLaws.{part-run}
+use Rattle.tlv.specs.ReadForward.{Inside, Forward, forward, read_enough, read_loop}
+use Rattle.tlv.specs.SentLaws.{part_run}
 use Rattle.tlv_read.specs.Needs.{ReadNeeds, ReadIs, moved}
 
 module _ (D n : ℕ) (lost begins slots : List ℕ) (from : ℕ) where
@@ -44,18 +44,18 @@ module _ (D n : ℕ) (lost begins slots : List ℕ) (from : ℕ) where
     inside : Inside D n begins
     inside = needs.lent.reported.inside
 
-    pub turn-start : Turn found from 0 found
+    pub turn_start : Turn found from 0 found
     unfolding goal left
-    turn-start =
+    turn_start =
         let w = needs.lent.within in
-        let e = read-enough D n pos lost begins inside (octets slots) (D * n) (D * n - from) from w (omega arith) (omega arith) in
+        let e = read_enough D n pos lost begins inside (octets slots) (D * n) (D * n - from) from w (omega arith) (omega arith) in
         record { low = omega arith; within = w; same = refl; done = ap (λ (r : Reading). r.written) e; kept = refl; last = ap (λ (r : Reading). r.unfinished) e }
 
     module _ (p w : ℕ) (area : List ℕ) (t : Turn found p w area) (at size : ℕ) where
       stepped : (ends : Bool) → moved (octets slots) p ends at size ≡ step D n lost begins (octets slots) p
           → left p ≡ after left (moved (octets slots) p ends at size)
       unfolding left
-      stepped ends h = read-loop D n pos lost begins inside (octets slots) p t.within ∙ ap (after left) (sym h)
+      stepped ends h = read_loop D n pos lost begins inside (octets slots) p t.within ∙ ap (after left) (sym h)
 
       pub turn_end : (ends : Bool) → ends ≡ true → moved (octets slots) p ends at size ≡ step D n lost begins (octets slots) p → ReadIs goal (record { number = 0; written = w; unfinished = at }) found area
       unfolding moved
@@ -77,23 +77,23 @@ module _ (D n : ℕ) (lost begins slots : List ℕ) (from : ℕ) where
                 ∙ ap (λ (x : ℕ). goal.written ++ drop x found) count;
           }
 
-      pub turn-moves : (ends : Bool) → ends ≡ false → moved (octets slots) p ends at size ≡ step D n lost begins (octets slots) p → Moves area p w at size
+      pub turn_moves : (ends : Bool) → ends ≡ false → moved (octets slots) p ends at size ≡ step D n lost begins (octets slots) p → Moves area p w at size
       unfolding moved
-      turn-moves ends e h =
+      turn_moves ends e h =
           let f : Forward (D * n) p (moved (octets slots) p ends at size) = rw h (forward D n pos lost begins inside (octets slots) p t.within) in
           let g : Forward (D * n) p (on (run (octets slots) p size) at) = rw e at f in
-          let fits : size ≤ at - p = omega (arith, g.2, length-table size (λ i. octets slots (p + i))) in
+          let fits : size ≤ at - p = omega (arith, g.2, length_table size (λ i. octets slots (p + i))) in
           let long = needs.lent.long in
           let low = t.low in
           let same = t.same in
           let place = needs.place in
           record { on = g.0; within = g.1; fits = fits; from_end = omega (arith, g.0, g.1); to_end = omega (arith, g.0, g.1) }
 
-      pub turn-next : (ends : Bool) → ends ≡ false → moved (octets slots) p ends at size ≡ step D n lost begins (octets slots) p
+      pub turn_next : (ends : Bool) → ends ≡ false → moved (octets slots) p ends at size ≡ step D n lost begins (octets slots) p
           → (ys next : List ℕ) → ys ≡ part p (p + size) slots → next ≡ put w ys area → Turn found at (w + size) next
       unfolding moved
-      turn-next ends e h ys next y z =
-          let m = turn-moves ends e h in
+      turn_next ends e h ys next y z =
+          let m = turn_moves ends e h in
           let within = t.within in
           let low = t.low in
           let same = t.same in
@@ -102,16 +102,16 @@ module _ (D n : ℕ) (lost begins slots : List ℕ) (from : ℕ) where
           let u = m.on in
           let v = m.within in
           let f = m.fits in
-          let q : ys ≡ run (octets slots) p size = y ∙ part-run p size slots (omega arith) in
-          let k : length ys ≡ size = ap length q ∙ length-table size (λ i. octets slots (p + i)) in
+          let q : ys ≡ run (octets slots) p size = y ∙ part_run p size slots (omega arith) in
+          let k : length ys ≡ size = ap length q ∙ length_table size (λ i. octets slots (p + i)) in
           let l = stepped ends h in
           let r : left p ≡ record { written = run (octets slots) p size ++ (left at).written; unfinished = (left at).unfinished } = rw e at l in
-          let tk : take (w + size) next ≡ take w area ++ ys = rw (z, ← k) (take-put-end w ys area (omega arith)) in
-          let dr : drop (w + size) next ≡ drop (w + size) area = rw (z, ← k) (drop-put w ys area (omega arith)) in
+          let tk : take (w + size) next ≡ take w area ++ ys = rw (z, ← k) (take_put_end w ys area (omega arith)) in
+          let dr : drop (w + size) next ≡ drop (w + size) area = rw (z, ← k) (drop_put w ys area (omega arith)) in
           record {
             low = omega arith;
             within = v;
-            same = ap length z ∙ length-put w ys area (omega arith) ∙ same;
+            same = ap length z ∙ length_put w ys area (omega arith) ∙ same;
             done =
                 t.done
                 ∙ ap (λ (x : Reading). take w area ++ x.written) r

@@ -1,6 +1,6 @@
 // The call: what it refuses, and the packets.
 ghost use Rattle.std.specs.Prelude.{◌≡◌, ◌<◌};
-ghost use Rattle.tlv.specs.Calls.{placeOk, markOk, allHold, readOk, readNumber, readAnswer, readPackets};
+ghost use Rattle.tlv.specs.Calls.{place_ok, mark_ok, all_hold, read_ok, read_number, read_answer, read_packets};
 
 use crate::slots::start_at;
 use crate::steps::read_from;
@@ -8,7 +8,7 @@ use tlv::ReadAnswer;
 
 // Whether x is an octet of a slot, or stands for none.
 fn place_ok(size: usize, x: usize) -> bool
-    ensures { result ≡ placeOk size x }
+    ensures { result ≡ place_ok size x }
 {
     if x < size {
         return true;
@@ -18,7 +18,7 @@ fn place_ok(size: usize, x: usize) -> bool
 
 // Whether each report is an octet of its slot, or none.
 fn places_ok(size: usize, begins: &[u16]) -> bool
-    ensures { result ≡ allHold (placeOk size) begins.now }
+    ensures { result ≡ all_hold (place_ok size) begins.now }
 {
     let mut k: usize = 0;
     while k < begins.len() {
@@ -32,7 +32,7 @@ fn places_ok(size: usize, begins: &[u16]) -> bool
 
 // Whether each mark is 0 or 1.
 fn marks_ok(lost: &[u8]) -> bool
-    ensures { result ≡ allHold markOk lost.now }
+    ensures { result ≡ all_hold mark_ok lost.now }
 {
     let mut k: usize = 0;
     while k < lost.len() {
@@ -54,7 +54,7 @@ fn lent_ok(
     area: usize,
 ) -> bool
     requires { 0 < size }
-    ensures { result ≡ readOk size octets begins.now lost.now first area }
+    ensures { result ≡ read_ok size octets begins.now lost.now first area }
 {
     if !tlv::slots_ok(size, octets, begins.len()) {
         return false;
@@ -83,7 +83,7 @@ fn read_number(
     first: usize,
     area: usize,
 ) -> u8
-    ensures { result ≡ readNumber rate slots.now begins.now lost.now first area }
+    ensures { result ≡ read_number rate slots.now begins.now lost.now first area }
 {
     if !plan::known(rate, plan::RATES) {
         return refusal::PLAN;
@@ -104,8 +104,8 @@ pub fn read(
     first: u32,
     packets: &mut [u8],
 ) -> ReadAnswer
-    ensures value { result ≡ readAnswer rate slots.now begins.now lost.now first packets.old }
-    ensures packets_after { packets.new ≡ readPackets rate slots.now begins.now lost.now first packets.old }
+    ensures value { result ≡ read_answer rate slots.now begins.now lost.now first packets.old }
+    ensures packets_after { packets.new ≡ read_packets rate slots.now begins.now lost.now first packets.old }
 {
     let number = read_number(rate, slots, begins, lost, first as usize, packets.len());
     if number != 0 {

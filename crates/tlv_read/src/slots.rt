@@ -1,12 +1,12 @@
 // Lost slots and reported beginnings.
 ghost use Rattle.std.specs.Prelude.{◌≡◌};
-ghost use Rattle.tlv.specs.Read.{lostFrom, onFrom, start};
+ghost use Rattle.tlv.specs.Read.{lost_from, on_from, start};
 ghost use Rattle.tlv_read.specs.Needs.{Marked, Reported};
 
 // The first lost slot from `slot` on that begins before octet `to`, `count` where there is none.
 pub fn first_lost(size: usize, count: usize, lost: &[u8], slot: usize, to: usize) -> usize
     requires { Marked size count lost.now }
-    ensures { result ≡ lostFrom size count lost.now slot to }
+    ensures { result ≡ lost_from size count lost.now slot to }
 {
     let mut k = slot;
     while k < count {
@@ -24,7 +24,7 @@ pub fn first_lost(size: usize, count: usize, lost: &[u8], slot: usize, to: usize
 // The next reported beginning from `slot` on, the slots' length where there is none.
 pub fn next_begin(size: usize, count: usize, lost: &[u8], begins: &[u16], slot: usize) -> usize
     requires { Reported size count lost.now begins.now }
-    ensures { result ≡ onFrom size count lost.now begins.now slot }
+    ensures { result ≡ on_from size count lost.now begins.now slot }
 {
     let mut k = slot;
     while k < count {

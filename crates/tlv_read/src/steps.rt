@@ -1,8 +1,8 @@
 // One step of reading, and steps until one stops.
 ghost use Rattle.std.specs.Prelude.{false, ◌≡◌, ◌+◌, ◌*◌, ◌<◌};
 ghost use Rattle.tlv.specs.Packets.{octets};
-ghost use Rattle.tlv.specs.Read.{onFrom, step, read};
-ghost use Rattle.tlv_read.specs.Needs.{Reported, Whole, WholeNeeds, Lent, ReadNeeds, ReadIs, moved, keptOf};
+ghost use Rattle.tlv.specs.Read.{on_from, step, read};
+ghost use Rattle.tlv_read.specs.Needs.{Reported, Whole, WholeNeeds, Lent, ReadNeeds, ReadIs, moved, kept_of};
 
 use crate::slots::{first_lost, next_begin};
 use tlv::ReadAnswer;
@@ -20,7 +20,7 @@ pub struct Move {
 // Where the rest of a slot is lost, reading goes on at the next beginning that is reported behind it.
 fn behind(size: usize, count: usize, lost: &[u8], begins: &[u16], slot: usize) -> Move
     requires { Reported size count lost.now begins.now × (slot < 9223372036854775808) }
-    ensures { (result.there ≡ false) × (result.ends ≡ false) × (result.at ≡ onFrom size count lost.now begins.now (slot + 1)) × (result.size ≡ 0) }
+    ensures { (result.there ≡ false) × (result.ends ≡ false) × (result.at ≡ on_from size count lost.now begins.now (slot + 1)) × (result.size ≡ 0) }
 {
     let at = next_begin(size, count, lost, begins, slot + 1);
     Move {
@@ -59,7 +59,7 @@ fn whole(
 
 // The octets of a packet that are written: none of an empty null.
 fn kept(kind: u8, size: usize) -> usize
-    ensures { result ≡ keptOf kind size }
+    ensures { result ≡ kept_of kind size }
 {
     if kind != tlv::NULL {
         return size;

@@ -1,6 +1,6 @@
 // TMCC blocks: their sizes, and what coding and reading them test alike.
 ghost use Rattle.std.specs.Prelude.{◌≡◌};
-ghost use Rattle.tmcc.specs.Blocks.{blockShape};
+ghost use Rattle.tmcc.specs.Blocks.{block_shape};
 
 mod calls;
 
@@ -27,7 +27,7 @@ pub const POSITIONS: usize = 22066;
 
 // The codeword that a block is: no tail, and zeros before and behind it in the parity input.
 pub fn shape() -> Shape
-    ensures { result ≡ blockShape }
+    ensures { result ≡ block_shape }
 {
     Shape {
         width: plan::BLOCK_WIDTH,

@@ -2,8 +2,8 @@
 ghost use Rattle.std.specs.Prelude.{◌≡◌, []};
 ghost use Rattle.refusal.specs.Answers.{Answered};
 ghost use Rattle.codeword.specs.Words.{plain};
-ghost use Rattle.tmcc.specs.Blocks.{messageOf, block_of};
-ghost use Rattle.tmcc.specs.Calls.{codeNumber};
+ghost use Rattle.tmcc.specs.Blocks.{message_of, block_of};
+ghost use Rattle.tmcc.specs.Calls.{code_number};
 ghost use Rattle.tmcc_coder.specs.Needs.{Plain, Coding};
 
 use tmcc::{INPUT_BITS, MESSAGE_BITS, RUN_BITS, SOURCE_BITS, SOURCE_OCTETS};
@@ -12,7 +12,7 @@ use tmcc::{INPUT_BITS, MESSAGE_BITS, RUN_BITS, SOURCE_BITS, SOURCE_OCTETS};
 // are read, and then take the place of the last two bits of the octets.
 fn put_plain(source: &[u8], run: &mut [u8])
     requires { Plain source.now run.old }
-    ensures { run.new ≡ plain (messageOf source.now) [] }
+    ensures { run.new ≡ plain (message_of source.now) [] }
 {
     let mut bch = [0u8; 192];
     bits::expand(source, &mut run[0..SOURCE_BITS]);
@@ -39,7 +39,7 @@ fn put_block(
 
 // The refusal of a call that codes a block, or 0.
 fn code_number(mask: u32, start: u32, table: &[u16], source: &[u8], block: &[u8]) -> u8
-    ensures { result ≡ codeNumber mask start table.now source.now block.now }
+    ensures { result ≡ code_number mask start table.now source.now block.now }
 {
     let number = tmcc::lent_number(mask, start, table, source, block);
     if number != 0 {
@@ -53,7 +53,7 @@ fn code_number(mask: u32, start: u32, table: &[u16], source: &[u8], block: &[u8]
 
 // Codes the 1,178 octets of a frame's TMCC bits into the 3,960 octets of its block; a refusal leaves the block as it was.
 pub fn code_block(mask: u32, start: u32, table: &[u16], source: &[u8], block: &mut [u8]) -> u8
-    ensures { Answered (codeNumber mask start table.now source.now block.old) (block_of table.now mask start source.now) block.old result block.new }
+    ensures { Answered (code_number mask start table.now source.now block.old) (block_of table.now mask start source.now) block.old result block.new }
 {
     let number = code_number(mask, start, table, source, block);
     if number != 0 {

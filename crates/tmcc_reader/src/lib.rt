@@ -1,9 +1,9 @@
 // Reading a TMCC block.
 ghost use Rattle.std.specs.Prelude.{◌≡◌};
 ghost use Rattle.refusal.specs.Answers.{Answered};
-ghost use Rattle.codeword.specs.Reading.{messageIn, wrongPosition, wordAnswer, wordNumber};
-ghost use Rattle.tmcc.specs.Blocks.{blockShape, tailed, source_of};
-ghost use Rattle.tmcc.specs.Calls.{readNumber, readAnswer};
+ghost use Rattle.codeword.specs.Reading.{message_in, wrong_position, word_answer, word_number};
+ghost use Rattle.tmcc.specs.Blocks.{block_shape, tailed, source_of};
+ghost use Rattle.tmcc.specs.Calls.{read_number, read_answer};
 ghost use Rattle.tmcc_reader.specs.Needs.{Taken, Readable};
 
 use codeword::WordAnswer;
@@ -12,7 +12,7 @@ use tmcc::{INPUT_BITS, MESSAGE_BITS, POSITIONS, RUN_BITS, SOURCE_BITS};
 // The octets of the TMCC bits that stand at the head of a run, their last two bits zeros.
 fn put_source(run: &mut [u8], source: &mut [u8])
     requires { Taken run.old source.old }
-    ensures { source.new ≡ tailed (messageIn blockShape run.old) }
+    ensures { source.new ≡ tailed (message_in block_shape run.old) }
 {
     bits::fill(&mut run[MESSAGE_BITS..SOURCE_BITS], 0);
     bits::collect(&run[0..SOURCE_BITS], source);
@@ -30,8 +30,8 @@ fn read(
     source: &mut [u8],
 ) -> WordAnswer
     requires { Readable start table.now block.now bits.old input.old sums.old source.old }
-    ensures value { result ≡ wordAnswer (wordNumber blockShape table.now mask start block.now) (wrongPosition blockShape table.now block.now) }
-    ensures answered { Answered (wordNumber blockShape table.now mask start block.now) (source_of mask start block.now) source.old result.number source.new }
+    ensures value { result ≡ word_answer (word_number block_shape table.now mask start block.now) (wrong_position block_shape table.now block.now) }
+    ensures answered { Answered (word_number block_shape table.now mask start block.now) (source_of mask start block.now) source.old result.number source.new }
 {
     let word = word_reader::read_word(tmcc::shape(), table, mask, start, block, bits, input, sums);
     if word.number == 0 {
@@ -52,8 +52,8 @@ pub fn read_block(
     block: &[u8],
     source: &mut [u8],
 ) -> WordAnswer
-    ensures value { result ≡ readAnswer mask start table.now block.now source.old }
-    ensures answered { Answered (readNumber mask start table.now block.now source.old) (source_of mask start block.now) source.old result.number source.new }
+    ensures value { result ≡ read_answer mask start table.now block.now source.old }
+    ensures answered { Answered (read_number mask start table.now block.now source.old) (source_of mask start block.now) source.old result.number source.new }
 {
     let number = tmcc::lent_number(mask, start, table, source, block);
     if number != 0 {

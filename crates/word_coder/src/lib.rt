@@ -1,8 +1,8 @@
 // Coding a word, once its message, BCH bits and tail stand at the head of its bits.
 ghost use Rattle.std.specs.Prelude.{◌≡◌, take};
-ghost use Rattle.bits.specs.Octets.{octetsOf};
+ghost use Rattle.bits.specs.Octets.{octets_of};
 ghost use Rattle.dispersal.specs.Dispersal.{dispersed};
-ghost use Rattle.codeword.specs.Words.{runBits, withParity, registerAfter};
+ghost use Rattle.codeword.specs.Words.{run_bits, with_parity, register_after};
 ghost use Rattle.codeword.specs.Needs.{Room, Coding};
 
 use codeword::Shape;
@@ -10,7 +10,7 @@ use codeword::Shape;
 // The parity of the bits that stand before it, put behind them.
 fn put_parity(shape: Shape, table: &[u16], bits: &mut [u8], input: &mut [u8])
     requires { Room shape table.now bits.old input.old }
-    ensures { bits.new ≡ withParity shape table.now (take (runBits shape) bits.old) }
+    ensures { bits.new ≡ with_parity shape table.now (take (run_bits shape) bits.old) }
 {
     let run = codeword::run_bits(shape);
     codeword::put_input(shape, &bits[0..run], input);
@@ -28,8 +28,8 @@ pub fn put_word(
     coded: &mut [u8],
 ) -> u32
     requires { Coding shape register table.now bits.old input.old coded.old }
-    ensures value { result ≡ registerAfter shape mask register }
-    ensures coded_after { coded.new ≡ octetsOf shape.octets (withParity shape table.now (dispersed shape.width mask register (take (runBits shape) bits.old))) }
+    ensures value { result ≡ register_after shape mask register }
+    ensures coded_after { coded.new ≡ octets_of shape.octets (with_parity shape table.now (dispersed shape.width mask register (take (run_bits shape) bits.old))) }
 {
     let run = codeword::run_bits(shape);
     let next = dispersal::disperse(shape.width, mask, register, &mut bits[0..run]);

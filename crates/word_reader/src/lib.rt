@@ -1,7 +1,7 @@
 // Reading a received word: its parity, its dispersal, its BCH bits.
 ghost use Rattle.std.specs.Prelude.{◌≡◌};
 ghost use Rattle.bits.specs.Octets.{bits_of};
-ghost use Rattle.codeword.specs.Reading.{wrongPosition, parityNumber, checksNumber};
+ghost use Rattle.codeword.specs.Reading.{wrong_position, parity_number, checks_number};
 ghost use Rattle.codeword.specs.WordLaws.{Fits};
 ghost use Rattle.codeword.specs.Needs.{Checked, Received, Run, ReadOf};
 
@@ -27,7 +27,7 @@ pub fn wrong_position(
     sums: &mut [u8],
 ) -> usize
     requires { Checked shape table.now coded.now bits.old input.old sums.old }
-    ensures value { result ≡ wrongPosition shape table.now coded.now }
+    ensures value { result ≡ wrong_position shape table.now coded.now }
     ensures bits_after { bits.new ≡ bits_of coded.now }
 {
     let run = codeword::run_bits(shape);
@@ -39,7 +39,7 @@ pub fn wrong_position(
 // The refusal of a parity whose lowest wrong position this is, or 0.
 pub fn parity_number(shape: Shape, wrong: usize) -> u8
     requires { Fits shape }
-    ensures { result ≡ parityNumber shape wrong }
+    ensures { result ≡ parity_number shape wrong }
 {
     if wrong == 374 * (120 - shape.rows) {
         return 0;
@@ -50,7 +50,7 @@ pub fn parity_number(shape: Shape, wrong: usize) -> u8
 // The refusal of parity or BCH bits, in this order, or 0.
 fn checks_number(shape: Shape, wrong: usize, run: &[u8]) -> u8
     requires { Run shape run.now }
-    ensures { result ≡ checksNumber shape wrong run.now }
+    ensures { result ≡ checks_number shape wrong run.now }
 {
     let number = parity_number(shape, wrong);
     if number != 0 {

@@ -5,14 +5,14 @@ use native.Mathlib.Omega.{arith}
 use lib.ListN.{length}
 use borrow.Author.Rules.{rules}
 use Rattle.lists.specs.PartLaws.{length_part}
-use Rattle.ldpc.specs.StepLaws.{turn_below, column-first}
-use Rattle.ldpc.proofs.Runs.{column-ends, address-added}
+use Rattle.ldpc.specs.StepLaws.{turn_below, column_first}
+use Rattle.ldpc.proofs.Runs.{column_ends, address_added}
 use Rattle.ldpc.proofs.add_address.Statement.{statement}
 use Rattle.ldpc.proofs.add_address.Tie as tie
 
 -- the column ends within the columns
 ends : (s : tie.Start) → 374 * (s.args.address % s.args.q) + 374 ≤ length s.args.columns.now
-ends s = omega (arith, column-ends s.args.q s.args.address s.requires.some, s.requires.places)
+ends s = omega (arith, column_ends s.args.q s.args.address s.requires.some, s.requires.places)
 
 -- and the place of the address is in it
 turn : (s : tie.Start) → s.args.address / s.args.q < 374
@@ -26,7 +26,7 @@ start c = c.before.before.before.before.before.before.before.before
 top : (c : tie.After-step-on) → (let a = (start c).args in c.step-on.result ≡ a.address % a.q)
 top c =
     let s = start c in
-    c.step-on.ensures ∙ column-first s.args.q s.args.address s.pre.some s.pre.below
+    c.step-on.ensures ∙ column_first s.args.q s.args.address s.pre.some s.pre.below
 
 -- the second run is as long as the places before the address
 again : tie.Need-add-run-requires-2
@@ -45,7 +45,7 @@ returns c =
     let b = e.before.before.before in
     let s = start e in
     let a = s.args in
-    address-added a.q a.address a.row.now a.columns.now s.pre (turn s) b.add-run.new.0 d.add-run2.new.0 e.step-on.result
+    address_added a.q a.address a.row.now a.columns.now s.pre (turn s) b.add-run.new.0 d.add-run2.new.0 e.step-on.result
     (top e) b.add-run.ensures d.add-run2.ensures
 
 pub add-address-spec : {M : Type 1} → statement M

@@ -6,8 +6,8 @@ use native.Mathlib.Omega.{arith}
 use borrow.Author.Rules.{rules}
 use Rattle.lists.specs.PartLaws.{length_part}
 use Rattle.ldpc.specs.Parity.{spacing}
-use Rattle.ldpc.specs.Stepping.{rowStepped}
-use Rattle.ldpc.specs.SteppedParityLaws.{rowStepped-none, rowStepped-more}
+use Rattle.ldpc.specs.Stepping.{row_stepped}
+use Rattle.ldpc.specs.SteppedParityLaws.{row_stepped_none, row_stepped_more}
 use Rattle.ldpc.specs.Columns.{across}
 use Rattle.ldpc.specs.Needs.{Added}
 use Rattle.ldpc.specs.AddedLaws.{added_none, added_then}
@@ -16,7 +16,7 @@ use Rattle.ldpc.proofs.add_row.Tie as tie
 
 record Inv (rows : ℕ) (table : List ℕ) (from count : ℕ) (bits : List ℕ) (base : ℕ) (found columns : List ℕ) (i : ℕ) : Type 0 where
   within : i ≤ count
-  adding : Added found columns (λ n. rowStepped (spacing rows) table bits from i base (across (spacing rows) 374 n))
+  adding : Added found columns (λ n. row_stepped (spacing rows) table bits from i base (across (spacing rows) 374 n))
 
 abbrev invariant-loop : tie.invariant-loop
 invariant-loop rows table from count bits base columns₀ q end i₀ columns i = Inv rows table from count bits base columns₀ columns i
@@ -29,7 +29,7 @@ loop-holds c =
     let a = c.before.before.before.args in
     record {
       within = search rules;
-      adding = added_none _ _ (λ n. rowStepped-none (spacing a.rows) a.table.now a.bits.now a.from a.base (across (spacing a.rows) 374 n));
+      adding = added_none _ _ (λ n. row_stepped_none (spacing a.rows) a.table.now a.bits.now a.from a.base (across (spacing a.rows) 374 n));
     }
 
 add-address-requires : tie.Need-add-address-requires invariant-loop decreases-loop
@@ -54,7 +54,7 @@ loop-again c =
     record {
       within = search rules;
       adding = added_then _ l.columns _ _ _ _ l.invariant.adding b.add-address.ensures
-          (λ n. rw e (rowStepped-more (spacing a.rows) a.table.now a.bits.now a.from l.i a.base (across (spacing a.rows) 374 n)));
+          (λ n. rw e (row_stepped_more (spacing a.rows) a.table.now a.bits.now a.from l.i a.base (across (spacing a.rows) 374 n)));
     }
 
 returns : tie.Need-returns invariant-loop decreases-loop

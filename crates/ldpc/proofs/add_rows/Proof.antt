@@ -5,11 +5,11 @@ use Prim.Native.Nat.{ℕ, ◌-◌, ◌≤◌}
 use native.Mathlib.Omega.{arith}
 use lib.ListN.{get_or}
 use borrow.Author.Rules.{rules}
-use Rattle.parity_table.specs.Tables.{positions, rowStart}
-use Rattle.parity_table.specs.TableLaws.{Row, rowStart-none, rowStart-more, row_at}
+use Rattle.parity_table.specs.Tables.{positions, row_start}
+use Rattle.parity_table.specs.TableLaws.{Row, row_start_none, row_start_more, row_at}
 use Rattle.ldpc.specs.Parity.{spacing}
-use Rattle.ldpc.specs.Stepping.{timesStepped}
-use Rattle.ldpc.specs.SteppedParityLaws.{timesStepped-none, timesStepped-more}
+use Rattle.ldpc.specs.Stepping.{times_stepped}
+use Rattle.ldpc.specs.SteppedParityLaws.{times_stepped_none, times_stepped_more}
 use Rattle.ldpc.specs.Columns.{across}
 use Rattle.ldpc.specs.Needs.{Added}
 use Rattle.ldpc.specs.AddedLaws.{added_none, added_then}
@@ -18,8 +18,8 @@ use Rattle.ldpc.proofs.add_rows.Tie as tie
 
 record Inv (rows : ℕ) (table bits found columns : List ℕ) (s r : ℕ) : Type 0 where
   within : r ≤ rows
-  start : s ≡ rowStart table r
-  adding : Added found columns (λ n. timesStepped (spacing rows) table bits r (across (spacing rows) 374 n))
+  start : s ≡ row_start table r
+  adding : Added found columns (λ n. times_stepped (spacing rows) table bits r (across (spacing rows) 374 n))
 
 abbrev invariant-loop : tie.invariant-loop
 invariant-loop rows table bits columns₀ s₀ r₀ columns s r = Inv rows table bits columns₀ columns s r
@@ -39,8 +39,8 @@ loop-holds c =
     let a = c.before.before.before.args in
     record {
       within = search rules;
-      start = sym (rowStart-none _);
-      adding = added_none _ _ (λ n. timesStepped-none (spacing a.rows) a.table.now a.bits.now (across (spacing a.rows) 374 n));
+      start = sym (row_start_none _);
+      adding = added_none _ _ (λ n. times_stepped_none (spacing a.rows) a.table.now a.bits.now (across (spacing a.rows) 374 n));
     }
 
 add-row-requires : tie.Need-add-row-requires invariant-loop decreases-loop
@@ -66,9 +66,9 @@ loop-again c =
     let n = b.before.before.index.ensures.0 in
     record {
       within = search rules;
-      start = omega (arith, rowStart-more a.table.now l.r, ap (λ (k : ℕ). get_or a.table.now k 0) e);
+      start = omega (arith, row_start_more a.table.now l.r, ap (λ (k : ℕ). get_or a.table.now k 0) e);
       adding = added_then _ l.columns _ _ _ _ l.invariant.adding b.add_row.ensures
-          (λ k. rw n (timesStepped-more (spacing a.rows) a.table.now a.bits.now (across (spacing a.rows) 374 k) l.r l.s e));
+          (λ k. rw n (times_stepped_more (spacing a.rows) a.table.now a.bits.now (across (spacing a.rows) 374 k) l.r l.s e));
     }
 
 returns : tie.Need-returns invariant-loop decreases-loop

@@ -8,7 +8,7 @@ use lib.Seq.{length-take-le}
 use borrow.Author.Rules.{rules}
 use Rattle.parity_table.specs.Tables.{positions}
 use Rattle.parity_table.specs.Needs.{Rows}
-use Rattle.ldpc.specs.SteppedParityLaws.{parity-stepped}
+use Rattle.ldpc.specs.SteppedParityLaws.{parity_stepped_law}
 use Rattle.ldpc.proofs.parity.Statement.{statement}
 use Rattle.ldpc.proofs.parity.Tie as tie
 
@@ -27,7 +27,7 @@ returns : tie.Need-returns
 returns c =
     let p = c.before.before.before in
     let s = p.before.before.before.before.before.before in
-    p.parity-in-columns.ensures ∙ parity-stepped s.args.rows s.args.table.now s.args.bits.now s.requires.ok
+    p.parity-in-columns.ensures ∙ parity_stepped_law s.args.rows s.args.table.now s.args.bits.now s.requires.ok
 
 pub parity-spec : {M : Type 1} → statement M
 parity-spec =

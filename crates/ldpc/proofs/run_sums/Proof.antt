@@ -9,12 +9,12 @@ use lib.ListN.{length, get_or, set, length-set}
 use lib.Seq.{get_or-set_same, get_or-set_other}
 use borrow.Author.Rules.{rules}
 use Rattle.lists.specs.Count.{sum}
-use Rattle.lists.specs.CountLaws.{sum-none, table_is}
+use Rattle.lists.specs.CountLaws.{sum_none, table_is}
 use Rattle.ldpc.specs.Parity.{running}
-use Rattle.ldpc.specs.ParityLaws.{running-sum}
+use Rattle.ldpc.specs.ParityLaws.{running_sum}
 use Rattle.ldpc.specs.Columns.{across, sum_at}
-use Rattle.ldpc.specs.ColumnLaws.{across-at, across-below}
-use Rattle.ldpc.specs.AddedLaws.{carry-more}
+use Rattle.ldpc.specs.ColumnLaws.{across_at, across_below}
+use Rattle.ldpc.specs.AddedLaws.{carry_more}
 use Rattle.ldpc.proofs.run_sums.Statement.{statement}
 use Rattle.ldpc.proofs.run_sums.Tie as tie
 
@@ -33,10 +33,10 @@ run_more q columns sums last position x r h e = record { same = length-set sums 
     v = (last + x) % 2
 
     w : (last + x) % 2 ≡ sum (position + 1) (sum_at q columns) % 2
-    w = carry-more last x (sum_at q columns) position r.carried (ap (λ (n : ℕ). n % 2) e)
+    w = carry_more last x (sum_at q columns) position r.carried (ap (λ (n : ℕ). n % 2) e)
 
     go : (k : ℕ) → k < position + 1 → Dec (k ≡ position) → get_or (set sums position v) k 0 ≡ running (sum_at q columns) k
-    go k l (yes i) = rw (i, get_or-set_same sums position v 0 (omega (arith, r.same))) (w ∙ sym (running-sum (sum_at q columns) position))
+    go k l (yes i) = rw (i, get_or-set_same sums position v 0 (omega (arith, r.same))) (w ∙ sym (running_sum (sum_at q columns) position))
     go k l (no i) = get_or-set_other sums position k v 0 i ∙ r.done k (omega arith)
 
 -- before position q × j
@@ -69,7 +69,7 @@ loop-holds c =
     let s = c.before.before in
     let f = sum_at s.args.q s.args.columns.now in
     record {
-      run = record { same = s.requires.room; done = λ k h. absurd (omega arith); carried = omega (arith, sum-none f) };
+      run = record { same = s.requires.room; done = λ k h. absurd (omega arith); carried = omega (arith, sum_none f) };
       within = search rules;
       reached = omega arith;
     }
@@ -85,7 +85,7 @@ here c =
     let l = c.before.loop2 in
     let o = c.before.before in
     let s = o.before.before.before.before in
-    rw l.invariant.reached (across-below s.args.q o.before.loop.j l.c o.loop-test.true c.loop2-test.true)
+    rw l.invariant.reached (across_below s.args.q o.before.loop.j l.c o.loop-test.true c.loop2-test.true)
 
 loop2-again : tie.Need-loop2-preserved invariant-loop2 decreases-loop2 invariant-loop decreases-loop
 loop2-again c =
@@ -95,7 +95,7 @@ loop2-again c =
     let a = o.before.before.before.before.args in
     let q = a.q in
     let x = a.columns.now in
-    let p : across 374 q l.position ≡ l.place = rw (l.invariant.reached, l.invariant.stands) (across-at 374 q o.before.loop.j l.c i.loop2-test.true) in
+    let p : across 374 q l.position ≡ l.place = rw (l.invariant.reached, l.invariant.stands) (across_at 374 q o.before.loop.j l.c i.loop2-test.true) in
     record {
       run = run_more q x l.sums l.last l.position c.wide.result l.invariant.run (here i) (c.wide.ensures.0 ∙ ap (λ (n : ℕ). get_or x n 0) (sym p));
       within = search rules;

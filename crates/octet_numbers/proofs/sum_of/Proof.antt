@@ -6,8 +6,8 @@ use native.Mathlib.Omega.{arith}
 use borrow.Author.Rules.{rules}
 use lib.ListN.{length, get_or}
 use Rattle.lists.specs.Count.{sum}
-use Rattle.lists.specs.CountLaws.{sum-none, sum_more}
-use Rattle.octet_numbers.specs.Numbers.{sumOf}
+use Rattle.lists.specs.CountLaws.{sum_none, sum_more}
+use Rattle.octet_numbers.specs.Numbers.{sum_of}
 use Rattle.octet_numbers.proofs.sum_of.Statement.{statement}
 use Rattle.octet_numbers.proofs.sum_of.Tie as tie
 
@@ -39,7 +39,7 @@ loop-again c =
     }
 
 returns : tie.Need-returns invariant-loop decreases-loop
-unfolding sumOf
+unfolding sum_of
 returns c =
     let l = c.before.loop in
     let u = c.before.before.before.args.octets.now in
@@ -50,5 +50,5 @@ returns c =
 pub sum-of-spec : {M : Type 1} → statement M
 sum-of-spec =
     tie.close
-    (tie.spec invariant-loop decreases-loop (λ c. record { within = omega arith; summed = sym (sum-none _); low = omega arith }) (λ c. search rules) (λ c κs. search rules) add-made (λ c. search rules) (λ c. search rules)
+    (tie.spec invariant-loop decreases-loop (λ c. record { within = omega arith; summed = sym (sum_none _); low = omega arith }) (λ c. search rules) (λ c κs. search rules) add-made (λ c. search rules) (λ c. search rules)
     loop-again (λ c. search rules) returns)

@@ -7,32 +7,32 @@ use native.Mathlib.Omega.{arith}
 use lib.ListN.{length, get_or, replicate}
 use borrow.Author.Rules.{rules}
 use Rattle.lists.specs.PartLaws.{length_part}
-use Rattle.parity_table.specs.Tables.{positions, rowStart}
-use Rattle.parity_table.specs.TableLaws.{Row, rowStart-none, rowStart-more, row_at}
+use Rattle.parity_table.specs.Tables.{positions, row_start}
+use Rattle.parity_table.specs.TableLaws.{Row, row_start_none, row_start_more, row_at}
 use Rattle.ldpc.specs.Parity.{spacing}
-use Rattle.ldpc.specs.Stepping.{rowStepped, timesStepped}
-use Rattle.ldpc.specs.SteppedParityLaws.{rowStepped-none, rowStepped-more, timesStepped-none}
+use Rattle.ldpc.specs.Stepping.{row_stepped, times_stepped}
+use Rattle.ldpc.specs.SteppedParityLaws.{row_stepped_none, row_stepped_more, times_stepped_none}
 use Rattle.ldpc.specs.Columns.{across}
-use Rattle.ldpc.specs.ColumnLaws.{place-below}
+use Rattle.ldpc.specs.ColumnLaws.{place_below}
 use Rattle.ldpc.specs.Needs.{Added, AddedBySteps}
 use Rattle.ldpc.specs.AddedLaws.{added_none, added_then}
-use Rattle.parity_check.specs.CheckLaws.{lowestWrong-is}
-use Rattle.parity_check.proofs.Passing.{Passed, timesStepped-next, added-rows, passed_none, parity-at, passed-more}
+use Rattle.parity_check.specs.CheckLaws.{lowest_wrong_is}
+use Rattle.parity_check.proofs.Passing.{Passed, times_stepped_next, added_rows, passed_none, parity_at, passed_more}
 use Rattle.parity_check.proofs.lowest_wrong.Statement.{statement}
 use Rattle.parity_check.proofs.lowest_wrong.Tie as tie
 
 -- the columns and the parity positions passed, before row r of the slot
 record AtRow (rows : ℕ) (table bits received found sums : List ℕ) (s last position place r : ℕ) : Type 0 where
   within : r ≤ 120
-  start : s ≡ rowStart table (min r rows)
-  adding : Added found sums (λ n. timesStepped (spacing rows) table bits (min r rows) (across (spacing rows) 374 n))
+  start : s ≡ row_start table (min r rows)
+  adding : Added found sums (λ n. times_stepped (spacing rows) table bits (min r rows) (across (spacing rows) 374 n))
   reached : position ≡ 374 * (r - rows)
   passed : Passed rows table bits received last position place
 
 -- the addresses of row r passed before address i
 record AtAddress (rows : ℕ) (table bits found : List ℕ) (s r count : ℕ) (sums : List ℕ) (i : ℕ) : Type 0 where
   within : i ≤ count
-  adding : Added found sums (λ n. rowStepped (spacing rows) table bits (s + 1) i (374 * r) (across (spacing rows) 374 n))
+  adding : Added found sums (λ n. row_stepped (spacing rows) table bits (s + 1) i (374 * r) (across (spacing rows) 374 n))
 
 -- the parity positions of a row passed before the k-th
 record AtBit (rows : ℕ) (table bits received : List ℕ) (first last position place k : ℕ) : Type 0 where
@@ -72,7 +72,7 @@ row c =
     let l = c.before.before.rows in
     let s = entry c.before.before in
     let e : min l.r s.args.rows ≡ l.r = omega arith in
-    row_at s.args.rows s.args.table.now s.pre.ready.ok l.r l.s c.if1.true (l.invariant.start ∙ ap (rowStart s.args.table.now) e)
+    row_at s.args.rows s.args.table.now s.pre.ready.ok l.r l.s c.if1.true (l.invariant.start ∙ ap (row_start s.args.table.now) e)
 
 -- the row of a loop over addresses
 abbrev row_of : tie.At-loop invariant-loop decreases-loop invariant-loop2 decreases-loop2 invariant-rows decreases-rows → tie.Then1 invariant-loop decreases-loop invariant-loop2 decreases-loop2 invariant-rows decreases-rows
@@ -87,7 +87,7 @@ within c =
     let l = c.before.loop2 in
     let a = (entry c.before.before.before.before).args in
     let h : l.position < positions a.rows = omega (arith, l.invariant.reached, c.before.before.before.before.rows.invariant.reached) in
-    (h, rw l.invariant.passed.stands (place-below (spacing a.rows) l.position h))
+    (h, rw l.invariant.passed.stands (place_below (spacing a.rows) l.position h))
 
 -- past the rows with addresses, every bit is added to the columns
 full : (r : tie.At-rows invariant-loop decreases-loop invariant-loop2 decreases-loop2 invariant-rows decreases-rows) →
@@ -98,7 +98,7 @@ full r h =
     let a = (entry r).args in
     let e : min r.rows.r a.rows ≡ a.rows = omega arith in
     let z = r.before.before.before.fill.ensures ∙ ap (λ (n : ℕ). replicate n 0) (entry r).requires.ready.room in
-    added-rows _ _ r.rows.sums a.rows a.table.now a.bits.now z e r.rows.invariant.adding
+    added_rows _ _ r.rows.sums a.rows a.table.now a.bits.now z e r.rows.invariant.adding
 
 rows-holds : tie.Need-rows-init invariant-loop decreases-loop invariant-loop2 decreases-loop2 invariant-rows decreases-rows
 rows-holds c =
@@ -107,8 +107,8 @@ rows-holds c =
     let z : min 0 a.rows ≡ 0 = omega arith in
     record {
       within = search rules;
-      start = rw z (sym (rowStart-none a.table.now));
-      adding = added_none _ _ (λ n. rw z (timesStepped-none (spacing a.rows) a.table.now a.bits.now (across (spacing a.rows) 374 n)));
+      start = rw z (sym (row_start_none a.table.now));
+      adding = added_none _ _ (λ n. rw z (times_stepped_none (spacing a.rows) a.table.now a.bits.now (across (spacing a.rows) 374 n)));
       reached = omega arith;
       passed = passed_none a.rows a.table.now a.bits.now a.received.now (omega (arith, s.requires.ready.rate.few));
     }
@@ -119,7 +119,7 @@ loop-holds c =
     let a = (entry r).args in
     record {
       within = search rules;
-      adding = added_none _ _ (λ n. rowStepped-none (spacing a.rows) a.table.now a.bits.now (r.rows.s + 1) (374 * r.rows.r) (across (spacing a.rows) 374 n));
+      adding = added_none _ _ (λ n. row_stepped_none (spacing a.rows) a.table.now a.bits.now (r.rows.s + 1) (374 * r.rows.r) (across (spacing a.rows) 374 n));
     }
 
 add-address-requires : tie.Need-add-address-requires invariant-loop decreases-loop invariant-loop2 decreases-loop2 invariant-rows decreases-rows
@@ -148,7 +148,7 @@ loop-again c =
     record {
       within = search rules;
       adding = added_then _ l.loop.sums _ _ _ _ l.loop.invariant.adding b.add-address.ensures
-          (λ n. rw e (rowStepped-more (spacing a.rows) a.table.now a.bits.now (r.rows.s + 1) l.loop.i (374 * r.rows.r) (across (spacing a.rows) 374 n)));
+          (λ n. rw e (row_stepped_more (spacing a.rows) a.table.now a.bits.now (r.rows.s + 1) l.loop.i (374 * r.rows.r) (across (spacing a.rows) 374 n)));
     }
 
 rows-again : tie.Need-rows-preserved invariant-loop decreases-loop invariant-loop2 decreases-loop2 invariant-rows decreases-rows
@@ -161,12 +161,12 @@ rows-again c =
     let i : l.loop.i ≡ l.before.index.result = omega arith in
     let f : min r.rows.r a.rows ≡ r.rows.r = omega arith in
     let g : min (r.rows.r + 1) a.rows ≡ r.rows.r + 1 = omega arith in
-    let e : r.rows.s ≡ rowStart t r.rows.r = r.rows.inv.start ∙ ap (rowStart t) f in
+    let e : r.rows.s ≡ row_start t r.rows.r = r.rows.inv.start ∙ ap (row_start t) f in
     record {
       within = search rules;
-      start = rw g (omega (arith, rowStart-more t r.rows.r, ap (λ (k : ℕ). get_or t k 0) e));
+      start = rw g (omega (arith, row_start_more t r.rows.r, ap (λ (k : ℕ). get_or t k 0) e));
       adding = added_then _ r.rows.sums _ _ _ _ r.rows.inv.adding l.loop.invariant.adding
-          (λ k. timesStepped-next (spacing a.rows) t a.bits.now (across (spacing a.rows) 374 k) r.rows.r r.rows.s _ _ _ _ e f g n i);
+          (λ k. times_stepped_next (spacing a.rows) t a.bits.now (across (spacing a.rows) 374 k) r.rows.r r.rows.s _ _ _ _ e f g n i);
       reached = omega (arith, r.rows.inv.reached);
       passed = r.rows.inv.passed;
     }
@@ -183,7 +183,7 @@ loop2-again c =
     rw c.next_place.ensures (record {
       within = search rules;
       reached = omega (arith, l.loop2.invariant.reached);
-      passed = passed-more a.rows a.table.now a.bits.now _ r.rows.sums (entry r).requires.ready.ok refl (full r l.before.if1.false) a.received.now _ l.loop2.last l.loop2.position l.loop2.place w.wide.result
+      passed = passed_more a.rows a.table.now a.bits.now _ r.rows.sums (entry r).requires.ready.ok refl (full r l.before.if1.false) a.received.now _ l.loop2.last l.loop2.position l.loop2.place w.wide.result
           (omega arith) l.loop2.invariant.passed (within w.before.before).0 w.wide.ensures.0 (c.before.if2.false ∙ c.before.before.wide2.ensures.0);
     })
 
@@ -195,8 +195,8 @@ rows-again-2 c =
     let e : min r.rows.r a.rows ≡ min (r.rows.r + 1) a.rows = omega arith in
     record {
       within = search rules;
-      start = r.rows.invariant.start ∙ ap (rowStart a.table.now) e;
-      adding = added-rows _ _ r.rows.sums a.rows a.table.now a.bits.now refl e r.rows.invariant.adding;
+      start = r.rows.invariant.start ∙ ap (row_start a.table.now) e;
+      adding = added_rows _ _ r.rows.sums a.rows a.table.now a.bits.now refl e r.rows.invariant.adding;
       reached = omega (arith, l.invariant.reached, r.rows.invariant.reached);
       passed = l.invariant.passed;
     }
@@ -206,7 +206,7 @@ returns c =
     let l = c.before.rows in
     let a = (entry c.before).args in
     let e : l.position ≡ positions a.rows = omega (arith, l.invariant.reached, l.invariant.within) in (
-      sym (lowestWrong-is a.rows a.table.now a.bits.now a.received.now l.position (omega arith) l.invariant.passed.right (λ h. absurd (omega arith))),
+      sym (lowest_wrong_is a.rows a.table.now a.bits.now a.received.now l.position (omega arith) l.invariant.passed.right (λ h. absurd (omega arith))),
       full c.before (omega (arith, (entry c.before).pre.ready.rate.few)),
     )
 
@@ -217,9 +217,9 @@ returns-2 c =
     let r = l.before.before.before in
     let a = (entry r).args in
     let h = (within w.before.before).0 in
-    let p = (parity-at a.rows a.table.now a.bits.now _ r.rows.sums (entry r).requires.ready.ok refl (full r l.before.if1.false) a.received.now l.loop2.last l.loop2.position l.loop2.place w.wide.result
+    let p = (parity_at a.rows a.table.now a.bits.now _ r.rows.sums (entry r).requires.ready.ok refl (full r l.before.if1.false) a.received.now l.loop2.last l.loop2.position l.loop2.place w.wide.result
     l.loop2.invariant.passed h w.wide.ensures.0).1 in (
-      sym (lowestWrong-is a.rows a.table.now a.bits.now a.received.now l.loop2.position (omega arith) l.loop2.invariant.passed.right
+      sym (lowest_wrong_is a.rows a.table.now a.bits.now a.received.now l.loop2.position (omega arith) l.loop2.invariant.passed.right
           (λ _ e. c.if2.true (p ∙ e ∙ sym c.before.wide2.ensures.0))),
       full r l.before.if1.false,
     )

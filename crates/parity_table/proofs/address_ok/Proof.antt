@@ -7,8 +7,8 @@ use lib.ListN.{length, get_or}
 use borrow.Author.Count.{below_none, below_more}
 use borrow.Author.Rules.{rules}
 use Rattle.lists.specs.ChoiceLaws.{false_of}
-use Rattle.parity_table.specs.Tables.{addressOk}
-use Rattle.parity_table.specs.TableLaws.{address-yes, address_below, address-new}
+use Rattle.parity_table.specs.Tables.{address_ok}
+use Rattle.parity_table.specs.TableLaws.{address_yes, address_below, address_new}
 use Rattle.parity_table.proofs.address_ok.Statement.{statement}
 use Rattle.parity_table.proofs.address_ok.Tie as tie
 
@@ -27,7 +27,7 @@ decreases-loop m table from i address k₀ k = i - k
 returns : tie.Need-returns invariant-loop decreases-loop
 returns c =
     let a = c.before.before.before.before.args in
-    sym (false_of (addressOk a.m a.table.now a.from a.i) (λ h. omega (arith, address_below a.m a.table.now a.from a.i h)))
+    sym (false_of (address_ok a.m a.table.now a.from a.i) (λ h. omega (arith, address_below a.m a.table.now a.from a.i h)))
 
 loop-holds : tie.Need-loop-init invariant-loop decreases-loop
 loop-holds c = record { there = search rules; is = refl; below = search rules; new = below_none _ }
@@ -36,8 +36,8 @@ returns-2 : tie.Need-returns-2 invariant-loop decreases-loop
 returns-2 c =
     let l = c.before.before.before.loop in
     let a = c.before.before.before.before.before.before.before.before.args in
-    sym (false_of (addressOk a.m a.table.now a.from a.i)
-    (λ h. address-new a.m a.table.now a.from a.i h l.k (search rules) c.if2.true))
+    sym (false_of (address_ok a.m a.table.now a.from a.i)
+    (λ h. address_new a.m a.table.now a.from a.i h l.k (search rules) c.if2.true))
 
 loop-again : tie.Need-loop-preserved invariant-loop decreases-loop
 loop-again c =
@@ -53,7 +53,7 @@ returns-3 : tie.Need-returns-3 invariant-loop decreases-loop
 returns-3 c =
     let l = c.before.loop in
     let a = c.before.before.before.before.before.before.args in
-    sym (address-yes a.m a.table.now a.from a.i (omega arith) (λ n h. l.invariant.new n (omega arith)))
+    sym (address_yes a.m a.table.now a.from a.i (omega arith) (λ n h. l.invariant.new n (omega arith)))
 
 pub address-ok-spec : {M : Type 1} → statement M
 address-ok-spec =

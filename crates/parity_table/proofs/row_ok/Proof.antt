@@ -9,8 +9,8 @@ use borrow.Author.Count.{below_none, below_more}
 use borrow.Author.Rules.{rules}
 use borrow.Author.Tests.{not-true, not-false}
 use Rattle.lists.specs.ChoiceLaws.{clash}
-use Rattle.parity_table.specs.Tables.{addressOk}
-use Rattle.parity_table.specs.TableLaws.{address-yes, row_made, row-yes, row-no}
+use Rattle.parity_table.specs.Tables.{address_ok}
+use Rattle.parity_table.specs.TableLaws.{address_yes, row_made, row_yes, row_no}
 use Rattle.parity_table.proofs.row_ok.Statement.{statement}
 use Rattle.parity_table.proofs.row_ok.Tie as tie
 
@@ -22,7 +22,7 @@ record Inv (m : ℕ) (table : List ℕ) (s count from i : ℕ) : Type 0 where
   next : from ≡ s + 1
   whole : s + 1 + count ≤ length table
   within : i ≤ count
-  passed : (n : ℕ) → n < i → addressOk m table from n ≡ true
+  passed : (n : ℕ) → n < i → address_ok m table from n ≡ true
 
 abbrev invariant-loop : tie.invariant-loop
 invariant-loop m table s count from i₀ i = Inv m table s count from i
@@ -31,16 +31,16 @@ abbrev decreases-loop : tie.decreases-loop
 decreases-loop m table s count from i₀ i = count - i
 
 returns : tie.Need-returns invariant-loop decreases-loop
-returns c = let a = c.before.before.args in sym (row-no a.m a.table.now a.s (λ r. omega arith))
+returns c = let a = c.before.before.args in sym (row_no a.m a.table.now a.s (λ r. omega arith))
 
 returns-2 : tie.Need-returns-2 invariant-loop decreases-loop
-returns-2 c = let a = c.before.before.before.before.before.args in sym (row-no a.m a.table.now a.s (λ r. omega arith))
+returns-2 c = let a = c.before.before.before.before.before.args in sym (row_no a.m a.table.now a.s (λ r. omega arith))
 
 returns-3 : tie.Need-returns-3 invariant-loop decreases-loop
-returns-3 c = let a = c.before.before.before.before.before.before.args in sym (row-no a.m a.table.now a.s (λ r. omega arith))
+returns-3 c = let a = c.before.before.before.before.before.before.args in sym (row_no a.m a.table.now a.s (λ r. omega arith))
 
 returns-4 : tie.Need-returns-4 invariant-loop decreases-loop
-returns-4 c = let a = c.before.before.before.before.before.before.before.args in sym (row-no a.m a.table.now a.s (λ r. omega arith))
+returns-4 c = let a = c.before.before.before.before.before.before.before.args in sym (row_no a.m a.table.now a.s (λ r. omega arith))
 
 loop-holds : tie.Need-loop-init invariant-loop decreases-loop
 loop-holds c = record {
@@ -58,9 +58,9 @@ returns-5 : tie.Need-returns-5 invariant-loop decreases-loop
 returns-5 c =
     let l = c.before.before.before.loop in
     let a = c.before.before.before.before.before.before.before.before.before.before.before.args in
-    sym (row-no a.m a.table.now a.s (λ r.
+    sym (row_no a.m a.table.now a.s (λ r.
     clash _ (sym c.before.address-ok.ensures ∙ not-true _ c.if5.true)
-    (address-yes a.m a.table.now (a.s + 1) l.i (r.below l.i (omega arith)) (λ k h. r.different k l.i h (omega arith)))))
+    (address_yes a.m a.table.now (a.s + 1) l.i (r.below l.i (omega arith)) (λ k h. r.different k l.i h (omega arith)))))
 
 loop-again : tie.Need-loop-preserved invariant-loop decreases-loop
 loop-again c =
@@ -80,7 +80,7 @@ returns-6 : tie.Need-returns-6 invariant-loop decreases-loop
 returns-6 c =
     let v = c.before.loop.invariant in
     let a = c.before.before.before.before.before.before.before.before.before.args in
-    sym (row-yes a.m a.table.now a.s
+    sym (row_yes a.m a.table.now a.s
     (row_made a.m a.table.now a.s v.here (omega arith) (omega arith) (omega arith) (λ i h. v.passed i (omega arith))))
 
 pub row-ok-spec : {M : Type 1} → statement M

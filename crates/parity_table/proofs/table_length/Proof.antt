@@ -7,16 +7,16 @@ use lib.ListN.{get_or}
 use borrow.Author.Count.{below_none, below_more}
 use borrow.Author.Rules.{rules}
 use borrow.Author.Tests.{not-true, not-false}
-use Rattle.parity_table.specs.Tables.{positions, rowStart}
-use Rattle.parity_table.specs.TableLaws.{Row, rowStart-none, rowStart-more, row_of, rows_all, rows-no, tableLength-yes, tableLength-no}
+use Rattle.parity_table.specs.Tables.{positions, row_start}
+use Rattle.parity_table.specs.TableLaws.{Row, row_start_none, row_start_more, row_of, rows_all, rows_no, table_length_yes, table_length_no}
 use Rattle.parity_table.proofs.table_length.Statement.{statement}
 use Rattle.parity_table.proofs.table_length.Tie as tie
 
 record Inv (rows : ℕ) (list : List ℕ) (m s r : ℕ) : Type 0 where
   size : m ≡ positions rows
   within : r ≤ rows
-  start : s ≡ rowStart list r
-  passed : (n : ℕ) → n < r → Row (positions rows) list (rowStart list n)
+  start : s ≡ row_start list r
+  passed : (n : ℕ) → n < r → Row (positions rows) list (row_start list n)
 
 abbrev invariant-loop : tie.invariant-loop
 invariant-loop rows list m s₀ r₀ s r = Inv rows list m s r
@@ -25,7 +25,7 @@ abbrev decreases-loop : tie.decreases-loop
 decreases-loop rows list m s₀ r₀ s r = rows - r
 
 loop-holds : tie.Need-loop-init invariant-loop decreases-loop
-loop-holds c = record { size = refl; within = search rules; start = sym (rowStart-none _); passed = below_none _ }
+loop-holds c = record { size = refl; within = search rules; start = sym (row_start_none _); passed = below_none _ }
 
 -- the row at s, where row_ok says that it stands there
 row : (c : tie.Else1 invariant-loop decreases-loop) → Row (positions c.before.before.before.before.before.args.rows) c.before.before.before.before.before.args.list.now c.before.before.before.loop.s
@@ -37,8 +37,8 @@ returns : tie.Need-returns invariant-loop decreases-loop
 returns c =
     let l = c.before.before.before.loop in
     let a = c.before.before.before.before.before.args in
-    sym (tableLength-no a.rows a.list.now
-    (rows-no a.rows a.list.now l.r (search rules) (rw l.invariant.start at (sym c.before.row_ok.ensures ∙ not-true _ c.if1.true))))
+    sym (table_length_no a.rows a.list.now
+    (rows_no a.rows a.list.now l.r (search rules) (rw l.invariant.start at (sym c.before.row_ok.ensures ∙ not-true _ c.if1.true))))
 
 loop-again : tie.Need-loop-preserved invariant-loop decreases-loop
 loop-again c =
@@ -48,7 +48,7 @@ loop-again c =
     record {
       size = l.invariant.size;
       within = search rules;
-      start = omega (arith, l.invariant.start, rowStart-more a.list.now l.r, ap (λ (n : ℕ). get_or a.list.now n 0) l.invariant.start, c.index.ensures.0);
+      start = omega (arith, l.invariant.start, row_start_more a.list.now l.r, ap (λ (n : ℕ). get_or a.list.now n 0) l.invariant.start, c.index.ensures.0);
       passed = below_more _ _ l.invariant.passed (rw l.invariant.start at (row e));
     }
 
@@ -58,8 +58,8 @@ returns-2 c =
     let a = c.before.before.before.args in
     let e : l.r ≡ a.rows = omega arith in
     l.invariant.start
-    ∙ ap (rowStart a.list.now) e
-    ∙ sym (tableLength-yes a.rows a.list.now (rows_all a.rows a.list.now (λ n h. l.invariant.passed n (omega arith))))
+    ∙ ap (row_start a.list.now) e
+    ∙ sym (table_length_yes a.rows a.list.now (rows_all a.rows a.list.now (λ n h. l.invariant.passed n (omega arith))))
 
 pub table-length-spec : {M : Type 1} → statement M
 table-length-spec =

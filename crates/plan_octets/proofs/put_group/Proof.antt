@@ -1,7 +1,7 @@
 -- `plan_octets::put_group`: three octets stored are all of the area; they fit, or are zeros.
 use mathlib.Core.Path.{sym, ◌∙◌}
 use borrow.Author.Rules.{rules}
-use Rattle.plan_octets.specs.GroupLaws.{three-set, group-used, group-unused}
+use Rattle.plan_octets.specs.GroupLaws.{three_set, group_used, group_unused}
 use Rattle.plan_octets.proofs.put_group.Statement.{statement}
 use Rattle.plan_octets.proofs.put_group.Tie as tie
 
@@ -17,12 +17,12 @@ cast-slots c = let s = c.before.before.before.before.before.before in record { f
 returns : tie.Need-returns
 returns c =
     let s = c.before.before.before.before.before.before in
-    three-set s.args.octets.now _ _ _ s.requires.long ∙ sym (group-used s.args.t1 s.args.g (search rules))
+    three_set s.args.octets.now _ _ _ s.requires.long ∙ sym (group_used s.args.t1 s.args.g (search rules))
 
 returns-2 : tie.Need-returns-2
 returns-2 c =
     let s = c.before.before.before.before.before.before.before in
-    c.before.before.fill.ensures ∙ rw s.requires.long (sym (group-unused s.args.t1 s.args.g (search rules)))
+    c.before.before.fill.ensures ∙ rw s.requires.long (sym (group_unused s.args.t1 s.args.g (search rules)))
 
 pub put-group-spec : {M : Type 1} → statement M
 put-group-spec =

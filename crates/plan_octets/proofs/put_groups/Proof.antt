@@ -5,11 +5,11 @@ use Prim.Native.Nat.{ℕ, ◌+◌, ◌*◌, ◌-◌, ◌≤◌}
 use native.Mathlib.Omega.{arith}
 use borrow.Author.Rules.{rules}
 use Rattle.lists.specs.Filling.{Filling}
-use Rattle.lists.specs.FillingLaws.{filling-none, filling-part, filling-all}
+use Rattle.lists.specs.FillingLaws.{filling_none, filling_part, filling_all}
 use Rattle.lists.specs.PartLaws.{length_part}
 use Rattle.plan.specs.declared.Plan.{Plan}
 use Rattle.plan_octets.specs.Groups.{groups_of}
-use Rattle.plan_octets.specs.GroupLaws.{length-groupsOf, group-in}
+use Rattle.plan_octets.specs.GroupLaws.{length_groups_of, group_in}
 use Rattle.plan_octets.proofs.put_groups.Statement.{statement}
 use Rattle.plan_octets.proofs.put_groups.Tie as tie
 
@@ -26,7 +26,7 @@ decreases-loop plan octets₀ g₀ octets g = 8 - g
 loop-holds : tie.Need-loop-init invariant-loop decreases-loop
 loop-holds c =
     let s = c.before in
-    record { within = omega arith; filling = filling-none _ _ (length-groupsOf s.args.plan ∙ sym s.requires.long) }
+    record { within = omega arith; filling = filling_none _ _ (length_groups_of s.args.plan ∙ sym s.requires.long) }
 
 put-group-requires : tie.Need-put-group-requires invariant-loop decreases-loop
 put-group-requires c κs =
@@ -48,15 +48,15 @@ loop-again c =
       within = search rules;
       filling =
           rw e
-          (filling-part _ _ (3 * l.g) l.octets l.invariant.filling (3 * l.g + 3) _ (omega arith) (omega (arith, s.requires.long))
-          (c.before.before.put-group.ensures ∙ sym (group-in s.args.plan l.g (search rules))));
+          (filling_part _ _ (3 * l.g) l.octets l.invariant.filling (3 * l.g + 3) _ (omega arith) (omega (arith, s.requires.long))
+          (c.before.before.put-group.ensures ∙ sym (group_in s.args.plan l.g (search rules))));
     }
 
 returns : tie.Need-returns invariant-loop decreases-loop
 returns c =
     let l = c.before.loop in
     let w = l.invariant.within in
-    filling-all _ _ (3 * l.g) l.octets l.invariant.filling (omega (arith, c.before.before.before.requires.long))
+    filling_all _ _ (3 * l.g) l.octets l.invariant.filling (omega (arith, c.before.before.before.requires.long))
 
 pub put-groups-spec : {M : Type 1} → statement M
 put-groups-spec =

@@ -5,22 +5,22 @@ use native.Mathlib.Omega.{arith}
 use borrow.Author.Rules.{rules}
 use borrow.Author.Tests.{le-leb, lt-leb}
 use lib.Dec.{eqb}
-use Rattle.plan_text.specs.Reading.{fieldOk}
-use Rattle.plan_text.specs.ReadingLaws.{digits-most}
+use Rattle.plan_text.specs.Reading.{field_ok}
+use Rattle.plan_text.specs.ReadingLaws.{digits_most}
 use Rattle.plan_text.proofs.field_ok.Statement.{statement}
 use Rattle.plan_text.proofs.field_ok.Tie as tie
 
 returns : tie.Need-returns
-unfolding fieldOk
+unfolding field_ok
 returns c = rw (← c.before.digits-at.ensures, lt-leb 1 c.before.digits-at.result c.if1.true)
 
 add-octet-at : tie.Need-overflow-add-octet-at
 add-octet-at c =
     let d = c.before.before.before in
-    omega (arith, d.digits-at.ensures, digits-most d.before.before.args.text.now d.before.before.args.at)
+    omega (arith, d.digits-at.ensures, digits_most d.before.before.args.text.now d.before.before.args.at)
 
 returns-2 : tie.Need-returns-2
-unfolding fieldOk
+unfolding field_ok
 returns-2 c =
     let z = c.before in
     let d = z.before.before.before in
@@ -28,7 +28,7 @@ returns-2 c =
     (ap (λ (n : ℕ). eqb n d.before.before.args.separator) c.octet-at.ensures)
 
 returns-3 : tie.Need-returns-3
-unfolding fieldOk
+unfolding field_ok
 returns-3 c =
     let d = c.before.before.before in
     rw (← d.digits-at.ensures, le-leb 1 d.digits-at.result c.before.before.if1.false, sym c.before.no-leading-zero.ensures ∙ c.if2.false)

@@ -2,22 +2,22 @@
 use Prim.Native.Nat.{◌≤◌}
 use native.Mathlib.Omega.{arith}
 use borrow.Author.Rules.{rules}
-use Rattle.plan_text.specs.Reading.{fieldStart, lineOk, line_of}
-use Rattle.plan_text.specs.ReadingLaws.{field-near}
+use Rattle.plan_text.specs.Reading.{field_start, line_ok, line_of}
+use Rattle.plan_text.specs.ReadingLaws.{field_near}
 use Rattle.plan_text.proofs.read_line.Statement.{statement}
 use Rattle.plan_text.proofs.read_line.Tie as tie
 
 second : (c : tie.After-field-end) → c.field-end.result ≤ 132
-second c = omega (arith, c.field-end.ensures, field-near c.before.before.args.text.now c.before.before.args.at)
+second c = omega (arith, c.field-end.ensures, field_near c.before.before.args.text.now c.before.before.args.at)
 
 third : (c : tie.After-field-end2) → c.field-end2.result ≤ 136
-third c = omega (arith, second c.before, c.field-end2.ensures, field-near c.before.before.before.args.text.now c.before.field-end.result)
+third c = omega (arith, second c.before, c.field-end2.ensures, field_near c.before.before.before.args.text.now c.before.field-end.result)
 
 line-ok-requires : tie.Need-line-ok-requires
 line-ok-requires c κs = let b = c.before in record { first = search rules; second = omega (arith, second b.before); third = omega (arith, third b) }
 
 returns : tie.Need-returns
-unfolding fieldStart lineOk line_of
+unfolding field_start line_ok line_of
 returns c =
     let v = c.before.before in
     let e = v.before.before in

@@ -4,8 +4,8 @@ use Prim.Native.Nat.{◌-◌, ◌≤◌}
 use native.Mathlib.Omega.{arith}
 use borrow.Author.Rules.{rules}
 use Rattle.plan.specs.PlanLaws.{accepted}
-use Rattle.run_list.specs.Listing.{heading, dummyTotal, totalLine, listText}
-use Rattle.run_list.specs.ListingLaws.{length-groups}
+use Rattle.run_list.specs.Listing.{heading, dummy_total, total_line, list_text}
+use Rattle.run_list.specs.ListingLaws.{length_groups}
 use Rattle.texts.specs.Written.{written_then, written_is}
 use Rattle.run_list.proofs.Sizes.{totals}
 use Rattle.run_list.proofs.write_all.Statement.{statement}
@@ -13,7 +13,7 @@ use Rattle.run_list.proofs.write_all.Tie as tie
 
 sums : (c : tie.After-data-total)
     → let p = c.before.before.before.before.before.before.before.before.before.before.before.args.plan in
-    (c.data-total.result ≤ 120) × (120 - c.data-total.result ≡ dummyTotal p)
+    (c.data-total.result ≤ 120) × (120 - c.data-total.result ≡ dummy_total p)
 sums c =
     let s = c.before.before.before.before.before.before.before.before.before.before.before in
     let t = totals s.args.plan s.requires.plan in
@@ -28,13 +28,13 @@ write-total-requires c κs =
     let s = h.before.before.before.before in
     let a = accepted s.args.plan s.requires.plan in
     record {
-      data-small = omega (arith, k.0);
-      dummy-small = omega arith;
-      room = omega (arith, s.requires.long, h.put-text.ensures.reached, h.put-text.ensures.same, g.write-groups.ensures.reached, g.write-groups.ensures.same, length-groups s.args.plan s.args.plan.count, a.high);
+      data_small = omega (arith, k.0);
+      dummy_small = omega arith;
+      room = omega (arith, s.requires.long, h.put-text.ensures.reached, h.put-text.ensures.same, g.write-groups.ensures.reached, g.write-groups.ensures.same, length_groups s.args.plan s.args.plan.count, a.high);
     }
 
 returns : tie.Need-returns
-unfolding listText heading
+unfolding list_text heading
 returns c =
     let t = c.before.before in
     let d = t.before.before in
@@ -43,7 +43,7 @@ returns c =
     let k = sums d in
     written_then (search rules) h.put-text.ensures
     (written_then (omega (arith, h.put-text.ensures.reached, h.put-text.ensures.same, h.before.before.before.before.requires.long)) g.write-groups.ensures
-    (written_is (ap₂ totalLine d.data-total.ensures k.1) t.write-total.ensures))
+    (written_is (ap₂ total_line d.data-total.ensures k.1) t.write-total.ensures))
 
 pub write-all-spec : {M : Type 1} → statement M
 write-all-spec = tie.close (tie.spec (λ c. search rules) (λ c κs. search rules) (λ c κs. search rules) (λ c κs. search rules) (λ c. omega (arith, sums c.before)) write-total-requires (λ c. search rules) returns)

@@ -9,11 +9,11 @@ use mathlib.Core.Bool.{Bool}
 use lib.Dec.{leb}
 use Rattle.lists.specs.Choice.{pick}
 use Rattle.plan.specs.declared.Plan.{Plan}
-use Rattle.plan.specs.Plans.{modulationOf, rateOf, slots_of, dataSlotsOf}
+use Rattle.plan.specs.Plans.{modulation_of, rate_of, slots_of, data_slots_of}
 use Rattle.plan.specs.PlanLaws.{before_more}
-use Rattle.plan.specs.Places.{runFirst, runLast}
-use Rattle.run_list.specs.Listing.{kindWord, runLine, runText, groupText}
-use Rattle.run_list.specs.ListingLaws.{length-runText}
+use Rattle.plan.specs.Places.{run_first, run_last}
+use Rattle.run_list.specs.Listing.{kind_word, run_line, run_text, group_text}
+use Rattle.run_list.specs.ListingLaws.{length_run_text}
 use Rattle.texts.specs.Written.{Written, written_then, written_is}
 use Rattle.run_list.proofs.Sizes.{Sizes, sizes}
 use Rattle.run_list.proofs.write_group.Statement.{statement}
@@ -27,7 +27,7 @@ carried : (c : tie.After-data-slots)
     → let s = c.before.before.before.before.before.before.before.before in
     let x = c.before.before.before.before.before.index.result in
     let f = c.data-slots.result in
-    (x ≡ slots_of s.args.t3 s.args.g) × (f ≡ dataSlotsOf s.args.t3 s.args.g) × (s.args.passed + x ≤ 120) × (f ≤ x)
+    (x ≡ slots_of s.args.t3 s.args.g) × (f ≡ data_slots_of s.args.t3 s.args.g) × (s.args.passed + x ≤ 120) × (f ≤ x)
 carried c =
     let s = c.before.before.before.before.before.before.before.before in
     let z = group s in
@@ -44,21 +44,21 @@ write-run-requires c κs =
     record {
       begins = omega (arith, k.2);
       ends = omega (arith, k.2, k.3);
-      modulation-small = omega (arith, z.modulation, b.before.before.before.index2.ensures.0);
-      rate-small = omega (arith, z.rate, b.before.index3.ensures.0);
+      modulation_small = omega (arith, z.modulation, b.before.before.before.index2.ensures.0);
+      rate_small = omega (arith, z.rate, b.before.index3.ensures.0);
       room = omega (arith, s.requires.room);
     }
 
-run_is : (p : Plan) (g : ℕ) (b : Bool) (from to m r : ℕ) → from ≡ runFirst p g b → to ≡ runLast p g b → m ≡ modulationOf p g → r ≡ rateOf p g
-    → pick (leb from to) (runLine from to m r (kindWord b)) [] ≡ runText p g b
-unfolding runText
+run_is : (p : Plan) (g : ℕ) (b : Bool) (from to m r : ℕ) → from ≡ run_first p g b → to ≡ run_last p g b → m ≡ modulation_of p g → r ≡ rate_of p g
+    → pick (leb from to) (run_line from to m r (kind_word b)) [] ≡ run_text p g b
+unfolding run_text
 run_is p g b from to m r d e f h = rw (d, e, f, h)
 
 -- the data run as the definition has it
 data-run : (c : tie.After-write-run)
     → let s = c.before.before.before.before.before.before.before.before.before.before.before in
-    Written (runText s.args.t3 s.args.g true) s.args.at s.args.out.now c.write-run.new.0 c.write-run.result
-unfolding runFirst runLast kindWord
+    Written (run_text s.args.t3 s.args.g true) s.args.at s.args.out.now c.write-run.new.0 c.write-run.result
+unfolding run_first run_last kind_word
 data-run c =
     let b = c.before.before.before in
     let s = b.before.before.before.before.before.before.before.before in
@@ -78,13 +78,13 @@ write-run-requires-2 c κs =
     record {
       begins = omega (arith, k.2, k.3);
       ends = omega (arith, k.2);
-      modulation-small = omega (arith, z.modulation, b.before.before.before.index2.ensures.0);
-      rate-small = omega (arith, z.rate, b.before.index3.ensures.0);
-      room = omega (arith, s.requires.room, w.reached, w.same, length-runText s.args.t3 s.args.g true);
+      modulation_small = omega (arith, z.modulation, b.before.before.before.index2.ensures.0);
+      rate_small = omega (arith, z.rate, b.before.index3.ensures.0);
+      room = omega (arith, s.requires.room, w.reached, w.same, length_run_text s.args.t3 s.args.g true);
     }
 
 returns : tie.Need-returns
-unfolding groupText runFirst runLast kindWord
+unfolding group_text run_first run_last kind_word
 returns c =
     let y = c.before.before in
     let d = y.before.before.before.before.before in

@@ -4,7 +4,7 @@ use native.Mathlib.Omega.{arith}
 use borrow.Author.Rules.{rules}
 use borrow.Author.Tests.{eq-eqb, ne_eqb}
 use lib.ListN.{length}
-use Rattle.run_list.specs.Listing.{listText, listed}
+use Rattle.run_list.specs.Listing.{list_text, listed}
 use Rattle.run_list.proofs.write_list.Statement.{statement}
 use Rattle.run_list.proofs.write_list.Tie as tie
 
@@ -24,7 +24,7 @@ returns-2 c =
     let z = eq-eqb _ 0 c.before.before.if1.false in
     let n = c.before.before.before.plan-number.ensures in
     let w = c.write-all.ensures in
-    let e : c.write-all.result ≡ length (listText c.before.before.before.before.args.plan) = omega (arith, w.reached) in
+    let e : c.write-all.result ≡ length (list_text c.before.before.before.before.args.plan) = omega (arith, w.reached) in
     (rw (← n, z, e), rw (← n, z) w.filled)
 
 pub write-list-spec : {M : Type 1} → statement M

@@ -1,8 +1,8 @@
 -- `run_list::write_refusal`: the word, the number and the line feed are written one behind the other.
 use native.Mathlib.Omega.{arith}
 use borrow.Author.Rules.{rules}
-use Rattle.run_list.specs.Listing.{refusedWord, refusedText}
-use Rattle.texts.specs.DecimalLaws.{length-decimal}
+use Rattle.run_list.specs.Listing.{refused_word, refused_text}
+use Rattle.texts.specs.DecimalLaws.{length_decimal}
 use Rattle.texts.specs.Written.{written_then}
 use Rattle.run_list.proofs.write_refusal.Statement.{statement}
 use Rattle.run_list.proofs.write_refusal.Tie as tie
@@ -12,10 +12,10 @@ put-text-requires-2 c κs =
     let d = c.before.before.before.before in
     let w = d.before.before.before.before in
     let a = w.before.before.before.before.args in
-    record { room = omega (arith, d.put-decimal.ensures.reached, d.put-decimal.ensures.same, w.put-text.ensures.reached, w.put-text.ensures.same, length-decimal a.number) }
+    record { room = omega (arith, d.put-decimal.ensures.reached, d.put-decimal.ensures.same, w.put-text.ensures.reached, w.put-text.ensures.same, length_decimal a.number) }
 
 returns : tie.Need-returns
-unfolding refusedText refusedWord
+unfolding refused_text refused_word
 returns c =
     let t = c.before.before in
     let d = t.before.before.before.before.before in

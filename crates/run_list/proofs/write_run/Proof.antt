@@ -5,8 +5,8 @@ use native.Mathlib.Omega.{arith}
 use borrow.Author.Rules.{rules}
 use borrow.Author.Tests.{le-leb, lt-leb}
 use lib.ListN.{length}
-use Rattle.run_list.specs.Listing.{runLine}
-use Rattle.texts.specs.DecimalLaws.{length-field}
+use Rattle.run_list.specs.Listing.{run_line}
+use Rattle.texts.specs.DecimalLaws.{length_field}
 use Rattle.texts.specs.Written.{written_none, written_then}
 use Rattle.run_list.proofs.write_run.Statement.{statement}
 use Rattle.run_list.proofs.write_run.Tie as tie
@@ -16,14 +16,14 @@ returns c = rw (lt-leb _ _ c.if1.true) (written_none _ _)
 
 -- how far each field reaches
 one : (c : tie.After-put-field) → (c.put-field.result ≤ c.before.before.before.before.before.args.at + 4) × (length c.put-field.new.0 ≡ length c.before.before.before.before.before.args.out.now)
-one c = (omega (arith, c.put-field.ensures.reached, length-field c.before.before.before.before.before.args.from), c.put-field.ensures.same)
+one c = (omega (arith, c.put-field.ensures.reached, length_field c.before.before.before.before.before.args.from), c.put-field.ensures.same)
 
 two : (c : tie.After-put-field2)
     → (c.put-field2.result ≤ c.before.before.before.before.before.before.before.before.before.args.at + 8)
     × (length c.put-field2.new.0 ≡ length c.before.before.before.before.before.before.before.before.before.args.out.now)
 two c =
     let p = c.before.before.before.before in
-    (omega (arith, (one p).0, c.put-field2.ensures.reached, length-field p.before.before.before.before.before.args.to), c.put-field2.ensures.same ∙ (one p).1)
+    (omega (arith, (one p).0, c.put-field2.ensures.reached, length_field p.before.before.before.before.before.args.to), c.put-field2.ensures.same ∙ (one p).1)
 
 three : (c : tie.After-put-field3)
     → (c.put-field3.result ≤ c.before.before.before.before.before.before.before.before.before.before.before.before.before.args.at + 12)
@@ -31,7 +31,7 @@ three : (c : tie.After-put-field3)
 three c =
     let q = c.before.before.before.before in
     let s = q.before.before.before.before.before.before.before.before.before in
-    (omega (arith, (two q).0, c.put-field3.ensures.reached, length-field s.args.modulation), c.put-field3.ensures.same ∙ (two q).1)
+    (omega (arith, (two q).0, c.put-field3.ensures.reached, length_field s.args.modulation), c.put-field3.ensures.same ∙ (two q).1)
 
 four : (c : tie.After-put-field4)
     → (c.put-field4.result ≤ c.before.before.before.before.before.before.before.before.before.before.before.before.before.before.before.before.before.args.at + 16)
@@ -39,7 +39,7 @@ four : (c : tie.After-put-field4)
 four c =
     let q = c.before.before.before.before in
     let s = q.before.before.before.before.before.before.before.before.before.before.before.before.before in
-    (omega (arith, (three q).0, c.put-field4.ensures.reached, length-field s.args.rate), c.put-field4.ensures.same ∙ (three q).1)
+    (omega (arith, (three q).0, c.put-field4.ensures.reached, length_field s.args.rate), c.put-field4.ensures.same ∙ (three q).1)
 
 put-field-requires-2 : tie.Need-put-field-requires-2
 put-field-requires-2 c κs = let f = one c.before.before.before in record { small = search rules; room = omega (arith, f.0, f.1) }
@@ -54,7 +54,7 @@ put-text-requires : tie.Need-put-text-requires
 put-text-requires c κs = let f = four c.before.before.before in record { room = omega (arith, f.0, f.1) }
 
 returns-2 : tie.Need-returns-2
-unfolding runLine
+unfolding run_line
 returns-2 c =
     let t = c.before.before in
     let d = t.before.before.before.before in

@@ -4,8 +4,8 @@ use Prim.Native.Nat.{◌+◌, ◌≤◌}
 use native.Mathlib.Omega.{arith}
 use borrow.Author.Rules.{rules}
 use lib.ListN.{length}
-use Rattle.run_list.specs.Listing.{kindWord, totalWord, dataWord, totalLine}
-use Rattle.texts.specs.DecimalLaws.{length-field}
+use Rattle.run_list.specs.Listing.{kind_word, total_word, data_word, total_line}
+use Rattle.texts.specs.DecimalLaws.{length_field}
 use Rattle.texts.specs.Written.{written_then}
 use Rattle.run_list.proofs.write_total.Statement.{statement}
 use Rattle.run_list.proofs.write_total.Tie as tie
@@ -18,7 +18,7 @@ two : (c : tie.After-put-field) → let s = c.before.before.before.before.before
 two c =
     let p = c.before.before.before.before in
     let s = p.before.before.before.before in
-    (omega (arith, (one p).0, c.put-field.ensures.reached, length-field s.args.«data»), c.put-field.ensures.same ∙ (one p).1)
+    (omega (arith, (one p).0, c.put-field.ensures.reached, length_field s.args.«data»), c.put-field.ensures.same ∙ (one p).1)
 
 three : (c : tie.After-put-text2)
     → let s = c.before.before.before.before.before.before.before.before.before.before.before.before.before in
@@ -33,7 +33,7 @@ four : (c : tie.After-put-field2)
 four c =
     let p = c.before.before.before.before in
     let s = p.before.before.before.before.before.before.before.before.before.before.before.before.before in
-    (omega (arith, (three p).0, c.put-field2.ensures.reached, length-field s.args.dummies), c.put-field2.ensures.same ∙ (three p).1)
+    (omega (arith, (three p).0, c.put-field2.ensures.reached, length_field s.args.dummies), c.put-field2.ensures.same ∙ (three p).1)
 
 put-field-requires : tie.Need-put-field-requires
 put-field-requires c κs = let f = one c.before.before.before in record { small = search rules; room = omega (arith, f.0, f.1) }
@@ -48,7 +48,7 @@ put-text-requires-3 : tie.Need-put-text-requires-3
 put-text-requires-3 c κs = let f = four c.before.before.before.before in record { room = omega (arith, f.0, f.1) }
 
 returns : tie.Need-returns
-unfolding totalLine totalWord dataWord kindWord
+unfolding total_line total_word data_word kind_word
 returns c =
     let t = c.before.before in
     let d = t.before.before.before.before.before in

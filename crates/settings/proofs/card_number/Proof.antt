@@ -2,20 +2,20 @@
 use mathlib.Core.Path.{sym, ◌∙◌}
 use borrow.Author.Rules.{rules}
 use borrow.Author.Tests.{lt-ltb, le-ltb}
-use Rattle.settings.specs.Cards.{cardNumber}
+use Rattle.settings.specs.Cards.{card_number}
 use Rattle.settings.proofs.card_number.Statement.{statement}
 use Rattle.settings.proofs.card_number.Tie as tie
 
 returns : tie.Need-returns
-unfolding cardNumber
+unfolding card_number
 returns c = let b = c.before in rw (sym b.before.card-ok.ensures ∙ b.if1.true, lt-ltb _ _ c.if2.true)
 
 returns-2 : tie.Need-returns-2
-unfolding cardNumber
+unfolding card_number
 returns-2 c = let b = c.before in rw (sym b.before.card-ok.ensures ∙ b.if1.true, le-ltb _ _ c.if2.false)
 
 returns-3 : tie.Need-returns-3
-unfolding cardNumber
+unfolding card_number
 returns-3 c = rw (sym c.before.card-ok.ensures ∙ c.if1.false)
 
 pub card-number-spec : {M : Type 1} → statement M

@@ -6,13 +6,13 @@ use borrow.Author.Rules.{rules}
 use borrow.Author.Tests.{ne_eqb}
 use lib.ListN.{length}
 use Rattle.lists.specs.PartLaws.{length_part}
-use Rattle.settings.specs.Cards.{readNumber, readAnswer}
+use Rattle.settings.specs.Cards.{read_number, read_answer}
 use Rattle.settings.specs.CardLaws.{There, there}
 use Rattle.settings.proofs.read_settings.Statement.{statement}
 use Rattle.settings.proofs.read_settings.Tie as tie
 
 returns : tie.Need-returns
-unfolding readAnswer readNumber
+unfolding read_answer read_number
 returns c =
     let n = c.before.before.card-number in
     c.no-settings.ensures ∙ rw (← n.ensures, ne_eqb _ 0 c.before.if1.true, ne_eqb _ 0 c.before.if1.true)
@@ -35,10 +35,10 @@ read-block-requires c κs =
     length_part (512 * a.number) (512 * a.number + 512) a.card.now (lies c.before).room ∙ omega arith
 
 returns-2 : tie.Need-returns-2
-unfolding readAnswer readNumber
+unfolding read_answer read_number
 returns-2 c =
     let d = c.before.before in
-    c.read-block.ensures ∙ rw (← d.before.card-number.ensures, d.if1.false)
+    c.read_block.ensures ∙ rw (← d.before.card-number.ensures, d.if1.false)
 
 pub read-settings-spec : {M : Type 1} → statement M
 read-settings-spec = tie.close (tie.spec (λ c κs. search rules) (λ c κs. search rules) returns mul_at add-end (λ c. search rules) (λ c. search rules) part_end read-block-requires returns-2)

@@ -3,11 +3,11 @@ use mathlib.Core.Path.{◌≡◌, refl, sym, ap, ◌∙◌}
 use Prim.Native.Nat.{ℕ}
 use borrow.Author.Rules.{rules}
 use lib.ListN.{length-replicate}
-use Rattle.plan.specs.RateLaws.{rate-rows}
+use Rattle.plan.specs.RateLaws.{rate_rows}
 use Rattle.codeword.specs.AnswerLaws.{answer≡}
-use Rattle.slot.specs.Reading.{checkedAnswer}
-use Rattle.slot.specs.Calls.{formNumber}
-use Rattle.slot_check.specs.FormLaws.{formed, check-refused, check-looked}
+use Rattle.slot.specs.Reading.{checked_answer}
+use Rattle.slot.specs.Calls.{form_number}
+use Rattle.slot_check.specs.FormLaws.{formed, check_refused, check_looked}
 use Rattle.slot_check.proofs.check_parity.Statement.{statement}
 use Rattle.slot_check.proofs.check_parity.Tie as tie
 
@@ -15,10 +15,10 @@ returns : tie.Need-returns
 returns c =
     let n = c.before.form-number in
     let a = c.before.before.before.before.args in
-    answer≡ n.ensures refl ∙ sym (check-refused a.rate a.table.now a.coded.now (λ z. c.if1.true (n.ensures ∙ z)))
+    answer≡ n.ensures refl ∙ sym (check_refused a.rate a.table.now a.coded.now (λ z. c.if1.true (n.ensures ∙ z)))
 
 -- nothing is refused before the parity
-passed : (c : tie.Else1) → let a = c.before.before.before.before.args in formNumber a.rate a.table.now a.coded.now ≡ 0
+passed : (c : tie.Else1) → let a = c.before.before.before.before.args in form_number a.rate a.table.now a.coded.now ≡ 0
 passed c = sym c.before.form-number.ensures ∙ c.if1.false
 
 checked-requires : tie.Need-checked-requires
@@ -27,12 +27,12 @@ checked-requires c κs =
     let a = n.before.before.before.before.before.args in
     let f = formed a.rate a.table.now a.coded.now (passed n.before) in
     record {
-      rate = rw n.rows.ensures (rate-rows a.rate f.rate-known);
+      rate = rw n.rows.ensures (rate_rows a.rate f.rate_known);
       table = rw n.rows.ensures f.table;
       whole = f.whole;
-      bits-long = length-replicate {A = ℕ} 44880 0;
-      input-long = length-replicate {A = ℕ} 44880 0;
-      sums-long = length-replicate {A = ℕ} 29546 0;
+      bits_long = length-replicate {A = ℕ} 44880 0;
+      input_long = length-replicate {A = ℕ} 44880 0;
+      sums_long = length-replicate {A = ℕ} 29546 0;
     }
 
 returns-2 : tie.Need-returns-2
@@ -40,8 +40,8 @@ returns-2 c =
     let n = c.before.before.before.before.before.before.before in
     let a = n.before.before.before.before.before.args in
     c.before.before.before.checked.ensures
-    ∙ ap (λ (R : ℕ). checkedAnswer R a.table.now a.coded.now) n.rows.ensures
-    ∙ sym (check-looked a.rate a.table.now a.coded.now (passed n.before))
+    ∙ ap (λ (R : ℕ). checked_answer R a.table.now a.coded.now) n.rows.ensures
+    ∙ sym (check_looked a.rate a.table.now a.coded.now (passed n.before))
 
 pub check-parity-spec : {M : Type 1} → statement M
 check-parity-spec = tie.close (tie.spec (λ c κs. search rules) returns (λ c κs. search rules) (λ c. search rules) (λ c. search rules) (λ c. search rules) checked-requires returns-2)

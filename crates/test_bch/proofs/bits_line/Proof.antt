@@ -2,8 +2,8 @@
 use lib.ListN.{length}
 use borrow.Author.Rules.{rules}
 use Rattle.lists.specs.Runs.{Bits}
-use Rattle.lists.specs.RunLaws.{below-part}
-use Rattle.bits.specs.OctetLaws.{bitsOf-bits}
+use Rattle.lists.specs.RunLaws.{below_part}
+use Rattle.bits.specs.OctetLaws.{bits_of_bits}
 use Rattle.test_bch.proofs.bits_line.Statement.{statement}
 use Rattle.test_bch.proofs.bits_line.Tie as tie
 
@@ -12,8 +12,8 @@ of-bits-requires c κs =
     let e = c.before.before.before.before.before in
     let s = e.before.before.before.before.before in
     let u = e.expand.new.1.0 in
-    let z : Bits u = rw e.expand.ensures (bitsOf-bits s.args.octets.now) in
-    record { bits = below-part 1 s.args.from (length u) u z; area = s.requires.area }
+    let z : Bits u = rw e.expand.ensures (bits_of_bits s.args.octets.now) in
+    record { bits = below_part 1 s.args.from (length u) u z; area = s.requires.area }
 
 pub bits-line-spec : {M : Type 1} → statement M
 bits-line-spec =

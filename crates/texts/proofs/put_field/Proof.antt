@@ -2,7 +2,7 @@
 use native.Mathlib.Omega.{arith}
 use borrow.Author.Rules.{rules}
 use Rattle.texts.specs.Decimals.{field}
-use Rattle.texts.specs.DecimalLaws.{length-decimal}
+use Rattle.texts.specs.DecimalLaws.{length_decimal}
 use Rattle.texts.specs.Written.{written_then}
 use Rattle.texts.proofs.put_field.Statement.{statement}
 use Rattle.texts.proofs.put_field.Tie as tie
@@ -11,7 +11,7 @@ put-octet-requires : tie.Need-put-octet-requires
 put-octet-requires c κs =
     let d = c.before.before.before in
     let a = d.before.before.before.args in
-    record { room = omega (arith, d.put-decimal.ensures.reached, d.put-decimal.ensures.same, length-decimal a.n) }
+    record { room = omega (arith, d.put-decimal.ensures.reached, d.put-decimal.ensures.same, length_decimal a.n) }
 
 returns : tie.Need-returns
 unfolding field

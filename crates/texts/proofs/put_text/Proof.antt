@@ -8,7 +8,7 @@ use borrow.Author.Rules.{rules}
 use lib.ListN.{length, get_or, set, take, length-set}
 use lib.Seq.{take-suc, take_all, length-take-le}
 use Rattle.lists.specs.Parts.{put}
-use Rattle.lists.specs.PartLaws.{put_one, put-put, put-none}
+use Rattle.lists.specs.PartLaws.{put_one, put_put, put_none}
 use Rattle.texts.specs.Written.{written}
 use Rattle.texts.proofs.put_text.Statement.{statement}
 use Rattle.texts.proofs.put_text.Tie as tie
@@ -26,7 +26,7 @@ abbrev decreases-loop : tie.decreases-loop
 decreases-loop out₀ at text i₀ next₀ out i next = length text - i
 
 loop-holds : tie.Need-loop-init invariant-loop decreases-loop
-loop-holds c = record { within = search rules; place = omega arith; same = refl; filled = sym (put-none c.args.at c.args.out.now) }
+loop-holds c = record { within = search rules; place = omega arith; same = refl; filled = sym (put_none c.args.at c.args.out.now) }
 
 -- one octet more
 turn : (at i : ℕ) (text found : List ℕ) → i < length text → at + length text ≤ length found
@@ -37,7 +37,7 @@ turn at i text found h r out e s =
     put_one (at + i) (get_or text i 0) out (omega arith)
     ∙ ap (put (at + i) (get_or text i 0 ∷ [])) e
     ∙ ap (λ (k : ℕ). put k (get_or text i 0 ∷ []) (put at (take i text) found)) (sym p)
-    ∙ put-put at (take i text) (get_or text i 0 ∷ []) found (omega arith)
+    ∙ put_put at (take i text) (get_or text i 0 ∷ []) found (omega arith)
     ∙ ap (λ (l : List ℕ). put at l found) (sym (rw add-one (take-suc text i 0 h)))
 
 loop-again : tie.Need-loop-preserved invariant-loop decreases-loop

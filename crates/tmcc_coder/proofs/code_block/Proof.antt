@@ -4,9 +4,9 @@ use Prim.Native.Nat.{ℕ}
 use borrow.Author.Rules.{rules}
 use lib.ListN.{length-replicate}
 use Rattle.refusal.specs.AnswerLaws.{refused, accepted}
-use Rattle.dispersal.specs.RegisterLaws.{register-is}
+use Rattle.dispersal.specs.RegisterLaws.{register_is}
 use Rattle.tmcc.specs.BlockLaws.{fits}
-use Rattle.tmcc.specs.Calls.{codeNumber}
+use Rattle.tmcc.specs.Calls.{code_number}
 use Rattle.tmcc.specs.CallLaws.{codable}
 use Rattle.tmcc_coder.proofs.code_block.Statement.{statement}
 use Rattle.tmcc_coder.proofs.code_block.Tie as tie
@@ -15,7 +15,7 @@ returns : tie.Need-returns
 returns c = refused _ _ _ _ c.before.code-number.ensures c.if1.true
 
 -- the number is 0
-zero : (c : tie.Else1) → let a = c.before.before.before.before.before.before.args in codeNumber a.mask a.start a.table.now a.source.now a.block.now ≡ 0
+zero : (c : tie.Else1) → let a = c.before.before.before.before.before.before.args in code_number a.mask a.start a.table.now a.source.now a.block.now ≡ 0
 zero c = sym c.before.code-number.ensures ∙ c.if1.false
 
 put-block-requires : tie.Need-put-block-requires
@@ -23,11 +23,11 @@ put-block-requires c κs =
     let g = (codable _ _ _ _ _ (zero c.before.before.before)).lent in
     record {
       word = record {
-        lent = record { fits = fits; table = g.areas.table; bits-long = length-replicate {A = ℕ} 31680 0; room = length-replicate {A = ℕ} 22814 0 };
-        held = (register-is 15 _ g.start-ok).high;
-        coded-long = g.areas.coded-long;
+        lent = record { fits = fits; table = g.areas.table; bits_long = length-replicate {A = ℕ} 31680 0; room = length-replicate {A = ℕ} 22814 0 };
+        held = (register_is 15 _ g.start_ok).high;
+        coded_long = g.areas.coded_long;
       };
-      source-long = g.areas.source-long;
+      source_long = g.areas.source_long;
     }
 
 returns-2 : tie.Need-returns-2

@@ -8,8 +8,8 @@ use lib.ListN.{length, take}
 use lib.Seq.{take_at}
 use borrow.Rule.Slice.PartMut.{put_mid, post_of, same_len_mid}
 use Rattle.codeword.specs.Words.{plain, sent, word_of}
-use Rattle.codeword.specs.WordLaws.{length-plain}
-use Rattle.tmcc.specs.Blocks.{messageOf, block_of}
+use Rattle.codeword.specs.WordLaws.{length_plain}
+use Rattle.tmcc.specs.Blocks.{message_of, block_of}
 use Rattle.tmcc.specs.BlockLaws.{message}
 use Rattle.tmcc_coder.proofs.put_block.Statement.{statement}
 use Rattle.tmcc_coder.proofs.put_block.Tie as tie
@@ -21,13 +21,13 @@ headed c = put_mid 0 (9614 - 0) c.before.before.before.before.before.before.befo
 kept : (c : tie.After-put-plain) → length (headed c) ≡ length c.before.before.before.before.before.before.before.args.bits.now
 kept c = same_len_mid 0 (9614 - 0) c.before.before.before.before.before.before.before.args.bits.now c.put-plain.new.1.0 c.put-plain.auto.1.0
 
-plain-held : (c : tie.After-put-plain) → take 9614 (headed c) ≡ plain (messageOf c.before.before.before.before.before.before.before.args.source.now) []
+plain-held : (c : tie.After-put-plain) → take 9614 (headed c) ≡ plain (message_of c.before.before.before.before.before.before.before.args.source.now) []
 plain-held c =
     let s = c.before.before.before.before.before.before.before in
-    let m = messageOf s.args.source.now in
+    let m = message_of s.args.source.now in
     let u = c.put-plain.new.1.0 in
     let e : u ≡ plain m [] = c.put-plain.ensures in
-    let n : length u ≡ 9614 = ap length e ∙ length-plain m [] ∙ omega (arith, (message s.args.source.now s.requires.source-long).long) in
+    let n : length u ≡ 9614 = ap length e ∙ length_plain m [] ∙ omega (arith, (message s.args.source.now s.requires.source_long).long) in
     take_at u (post_of 0 (9614 - 0) s.args.bits.now) 9614 n ∙ e
 
 put-word-requires : tie.Need-put-word-requires
@@ -37,9 +37,9 @@ put-word-requires c κs =
     let s = p.before.before.before.before.before.before.before in
     let w = s.requires.word in
     rw h.shape.ensures (record {
-      lent = record { fits = w.lent.fits; table = w.lent.table; bits-long = kept p ∙ w.lent.bits-long; room = w.lent.room };
+      lent = record { fits = w.lent.fits; table = w.lent.table; bits_long = kept p ∙ w.lent.bits_long; room = w.lent.room };
       held = w.held;
-      coded-long = w.coded-long;
+      coded_long = w.coded_long;
     })
 
 returns : tie.Need-returns

@@ -8,13 +8,13 @@ use lib.ListN.{length, take, length-replicate}
 use lib.Seq.{take-append-le}
 use borrow.Rule.Slice.PartMut.{put_mid, post_of, same_len_mid}
 use Rattle.lists.specs.Runs.{Bits}
-use Rattle.lists.specs.PartLaws.{length_part, put-lent, put-end}
+use Rattle.lists.specs.PartLaws.{length_part, put_lent, put_end}
 use Rattle.bits.specs.Octets.{bits_of}
-use Rattle.bits.specs.OctetLaws.{length-bitsOf}
-use Rattle.bch.specs.Bch.{bchBits}
-use Rattle.bch.specs.BchLaws.{length-bchBits}
+use Rattle.bits.specs.OctetLaws.{length_bits_of}
+use Rattle.bch.specs.Bch.{bch_bits}
+use Rattle.bch.specs.BchLaws.{length_bch_bits}
 use Rattle.codeword.specs.Words.{plain}
-use Rattle.tmcc.specs.Blocks.{messageOf}
+use Rattle.tmcc.specs.Blocks.{message_of}
 use Rattle.tmcc.specs.BlockLaws.{message}
 use Rattle.tmcc_coder.proofs.put_plain.Statement.{statement}
 use Rattle.tmcc_coder.proofs.put_plain.Tie as tie
@@ -29,29 +29,29 @@ kept c =
     same_len_mid 0 (9424 - 0) s.args.run.now c.expand.new.1.0 c.expand.auto.1.0 ∙ s.requires.room
 
 -- the TMCC bits in it
-held : (c : tie.After-expand) → take 9422 (headed c) ≡ messageOf c.before.before.before.before.args.source.now
-unfolding messageOf
+held : (c : tie.After-expand) → take 9422 (headed c) ≡ message_of c.before.before.before.before.args.source.now
+unfolding message_of
 held c =
     let s = c.before.before.before.before in
     let e : c.expand.new.1.0 ≡ bits_of s.args.source.now = c.expand.ensures in
-    let l : length c.expand.new.1.0 ≡ 9424 = ap length e ∙ length-bitsOf s.args.source.now ∙ omega (arith, s.requires.source-long) in
+    let l : length c.expand.new.1.0 ≡ 9424 = ap length e ∙ length_bits_of s.args.source.now ∙ omega (arith, s.requires.source_long) in
     take-append-le 9422 c.expand.new.1.0 (post_of 0 (9424 - 0) s.args.run.now) (omega (arith, l)) ∙ ap (take 9422) e
 
 of-bits-requires : tie.Need-of-bits-requires
 of-bits-requires c κs =
     let x = c.before.before.before.before.before in
-    record { bits = subst Bits (sym (held x)) (let s = x.before.before.before.before in (message s.args.source.now s.requires.source-long).bits); area = length-replicate {A = ℕ} 192 0 }
+    record { bits = subst Bits (sym (held x)) (let s = x.before.before.before.before in (message s.args.source.now s.requires.source_long).bits); area = length-replicate {A = ℕ} 192 0 }
 
 -- the BCH bits
 made : (c : tie.After-of-bits)
-    → c.of-bits.new.1.0 ≡ bchBits (messageOf c.before.before.before.before.before.before.before.before.before.before.args.source.now)
-made c = c.of-bits.ensures ∙ ap bchBits (held c.before.before.before.before.before.before)
+    → c.of-bits.new.1.0 ≡ bch_bits (message_of c.before.before.before.before.before.before.before.before.before.before.args.source.now)
+made c = c.of-bits.ensures ∙ ap bch_bits (held c.before.before.before.before.before.before)
 
 copy-requires : tie.Need-copy-requires
 copy-requires c κs =
     let b = c.before.before.before in
     let x = b.before.before.before.before.before.before in
-    length_part 9422 9614 (headed x) (omega (arith, kept x)) ∙ sym (ap length (made b) ∙ length-bchBits _)
+    length_part 9422 9614 (headed x) (omega (arith, kept x)) ∙ sym (ap length (made b) ∙ length_bch_bits _)
 
 returns : tie.Need-returns
 unfolding plain
@@ -60,9 +60,9 @@ returns c =
     let b = y.before.before.before.before in
     let x = b.before.before.before.before.before.before in
     let e = y.copy.ensures ∙ made b in
-    let l : length y.copy.new.1.0 ≡ 192 = ap length e ∙ length-bchBits _ in
-    put-lent 9422 9614 (headed x) y.copy.new.1.0 (omega arith) l
-    ∙ put-end 9422 y.copy.new.1.0 (headed x) (omega (arith, kept x, l))
+    let l : length y.copy.new.1.0 ≡ 192 = ap length e ∙ length_bch_bits _ in
+    put_lent 9422 9614 (headed x) y.copy.new.1.0 (omega arith) l
+    ∙ put_end 9422 y.copy.new.1.0 (headed x) (omega (arith, kept x, l))
     ∙ ap₂ (λ (u v : List ℕ). u ++ v) (held x) (e ∙ sym (append-nil _))
 
 pub put-plain-spec : {M : Type 1} → statement M

@@ -6,18 +6,18 @@ use native.Mathlib.Omega.{arith}
 use borrow.Author.Rules.{rules}
 use lib.Seq.{length-take-le}
 use Rattle.refusal.specs.AnswerLaws.{refused, accepted}
-use Rattle.codeword.specs.Reading.{messageIn}
-use Rattle.codeword.specs.ReadingLaws.{takenOff-bits}
+use Rattle.codeword.specs.Reading.{message_in}
+use Rattle.codeword.specs.ReadingLaws.{taken_off_bits}
 use Rattle.codeword.specs.AnswerLaws.{answer≡}
 use Rattle.codeword.specs.Needs.{ReadOf}
-use Rattle.tmcc.specs.Blocks.{blockShape, tailed, source_of}
+use Rattle.tmcc.specs.Blocks.{block_shape, tailed, source_of}
 use Rattle.tmcc_reader.proofs.read.Statement.{statement}
 use Rattle.tmcc_reader.proofs.read.Tie as tie
 
 -- the codeword read
 word : (c : tie.After-read-word)
     → let a = c.before.before.before.before.before.before.before.before.before.before.before.args in
-    ReadOf blockShape a.table.now a.mask a.start a.block.now c.read_word.result.number c.read_word.result.position c.read_word.result.register c.read_word.new.1.1.1.1.1.0
+    ReadOf block_shape a.table.now a.mask a.start a.block.now c.read_word.result.number c.read_word.result.position c.read_word.result.register c.read_word.new.1.1.1.1.1.0
 word c = rw c.before.before.before.before.shape.ensures at c.read_word.ensures
 
 read-word-requires : tie.Need-read-word-requires
@@ -30,7 +30,7 @@ part-put-source-end : tie.Need-slice-bounds-put-source-end
 part-put-source-end c =
     let w = c.before.before.before.before.before.before.before.before in
     let s = w.before.before.before.before.before.before.before.before.before.before.before in
-    omega (arith, w.read_word.auto.1.1.1.1.1.0, s.requires.received.checked.lent.bits-long)
+    omega (arith, w.read_word.auto.1.1.1.1.1.0, s.requires.received.checked.lent.bits_long)
 
 put-source-requires : tie.Need-put-source-requires
 put-source-requires c κs =
@@ -41,10 +41,10 @@ put-source-requires c κs =
     record {
       here = record {
         fits = g.fits;
-        long = length-take-le 9614 w.read_word.new.1.1.1.1.1.0 (omega (arith, w.read_word.auto.1.1.1.1.1.0, g.bits-long));
-        bits = rw (word w).plain (takenOff-bits blockShape a.block.now a.mask a.start);
+        long = length-take-le 9614 w.read_word.new.1.1.1.1.1.0 (omega (arith, w.read_word.auto.1.1.1.1.1.0, g.bits_long));
+        bits = rw (word w).plain (taken_off_bits block_shape a.block.now a.mask a.start);
       };
-      source-long = s.requires.source-long;
+      source_long = s.requires.source_long;
     }
 
 returns : tie.Need-returns
@@ -53,7 +53,7 @@ returns c =
     let o = c.before.before.before.before in
     let t = o.before.before.before in
     let w = word t.before.before.before.before.before.before.before.before in
-    (answer≡ w.number w.position, rw t.if1.true (accepted _ _ _ _ (sym w.number ∙ t.if1.true) (o.put-source.ensures ∙ ap (λ (u : List ℕ). tailed (messageIn blockShape u)) w.plain)))
+    (answer≡ w.number w.position, rw t.if1.true (accepted _ _ _ _ (sym w.number ∙ t.if1.true) (o.put-source.ensures ∙ ap (λ (u : List ℕ). tailed (message_in block_shape u)) w.plain)))
 
 returns-2 : tie.Need-returns-2
 returns-2 c =

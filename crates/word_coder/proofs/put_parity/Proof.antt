@@ -5,15 +5,15 @@ use Prim.Native.Nat.{ℕ, ◌+◌, ◌-◌}
 use native.Mathlib.Omega.{arith}
 use borrow.Author.Rules.{rules}
 use lib.ListN.{length, take}
-use Rattle.lists.specs.PartLaws.{take-lent, put-lent, put-end}
-use Rattle.ldpc.specs.Parity.{parityOf}
-use Rattle.ldpc.specs.ParityLaws.{length-parityOf}
-use Rattle.codeword.specs.Words.{runBits, parityInput, withParity}
+use Rattle.lists.specs.PartLaws.{take_lent, put_lent, put_end}
+use Rattle.ldpc.specs.Parity.{parity_of}
+use Rattle.ldpc.specs.ParityLaws.{length_parity_of}
+use Rattle.codeword.specs.Words.{run_bits, parity_input, with_parity}
 use Rattle.word_coder.proofs.put_parity.Statement.{statement}
 use Rattle.word_coder.proofs.put_parity.Tie as tie
 
 returns : tie.Need-returns
-unfolding withParity
+unfolding with_parity
 returns c =
     let p = c.before.before in
     let i = p.before.before.before.before.before in
@@ -23,13 +23,13 @@ returns c =
     let F = a.shape in
     let u = a.bits.now in
     let n = b.run-bits.result in
-    let z : n ≡ runBits F = b.run-bits.ensures in
+    let z : n ≡ run_bits F = b.run-bits.ensures in
     let made = p.parity.new.1.1.1.0 in
-    let e : made ≡ parityOf F.rows a.table.now (parityInput F (take (runBits F) u)) =
-    p.parity.ensures ∙ ap (parityOf F.rows a.table.now) (i.put-input.ensures ∙ ap (parityInput F) (take-lent n (runBits F) u z)) in
-    let l : n + length made ≡ length u = omega (arith, ap length e ∙ length-parityOf F.rows a.table.now (parityInput F (take (runBits F) u)), s.requires.fits.whole, s.requires.bits-long) in
-    put-lent n (length u) u made (omega arith) (omega arith)
-    ∙ put-end n made u l
+    let e : made ≡ parity_of F.rows a.table.now (parity_input F (take (run_bits F) u)) =
+    p.parity.ensures ∙ ap (parity_of F.rows a.table.now) (i.put-input.ensures ∙ ap (parity_input F) (take_lent n (run_bits F) u z)) in
+    let l : n + length made ≡ length u = omega (arith, ap length e ∙ length_parity_of F.rows a.table.now (parity_input F (take (run_bits F) u)), s.requires.fits.whole, s.requires.bits_long) in
+    put_lent n (length u) u made (omega arith) (omega arith)
+    ∙ put_end n made u l
     ∙ ap₂ (λ (x y : List ℕ). x ++ y) (ap (λ (k : ℕ). take k u) z) e
 
 pub put-parity-spec : {M : Type 1} → statement M

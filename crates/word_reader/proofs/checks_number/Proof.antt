@@ -4,21 +4,21 @@ use Prim.Native.Nat.{◌+◌, ◌-◌}
 use native.Mathlib.Omega.{arith}
 use borrow.Author.Rules.{rules}
 use borrow.Author.Tests.{ne_eqb}
-use Rattle.lists.specs.PartLaws.{length_part, take-lent}
-use Rattle.lists.specs.RunLaws.{below-take}
-use Rattle.codeword.specs.Reading.{bchRight, checksNumber}
+use Rattle.lists.specs.PartLaws.{length_part, take_lent}
+use Rattle.lists.specs.RunLaws.{below_take}
+use Rattle.codeword.specs.Reading.{bch_right, checks_number}
 use Rattle.word_reader.proofs.checks_number.Statement.{statement}
 use Rattle.word_reader.proofs.checks_number.Tie as tie
 
 -- what the test of the BCH bits says
-tested : (c : tie.After-right) → let a = c.before.before.before.before.before.before.args in c.right.result ≡ bchRight a.shape a.run.now
-unfolding bchRight
+tested : (c : tie.After-right) → let a = c.before.before.before.before.before.before.args in c.right.result ≡ bch_right a.shape a.run.now
+unfolding bch_right
 tested c =
     let a = c.before.before.before.before.before.before.args in
-    c.right.ensures ∙ rw (take-lent a.shape.message a.shape.message a.run.now refl)
+    c.right.ensures ∙ rw (take_lent a.shape.message a.shape.message a.run.now refl)
 
 returns : tie.Need-returns
-unfolding checksNumber
+unfolding checks_number
 returns c = rw (← c.before.parity-number.ensures, ne_eqb _ 0 c.if1.true)
 
 right-requires : tie.Need-right-requires
@@ -26,16 +26,16 @@ right-requires c κs =
     let s = c.before.before.before.before.before in
     let m = s.args.shape.message in
     let u = s.args.run.now in
-    record { bits = below-take 1 (m - 0) u s.requires.bits; long = length_part m (m + 192) u (omega (arith, s.requires.long)) ∙ omega arith }
+    record { bits = below_take 1 (m - 0) u s.requires.bits; long = length_part m (m + 192) u (omega (arith, s.requires.long)) ∙ omega arith }
 
 returns-2 : tie.Need-returns-2
-unfolding checksNumber
+unfolding checks_number
 returns-2 c =
     let e = c.before.before.before.before in
     rw (← e.before.parity-number.ensures, e.if1.false, ← tested c.before, c.if2.true)
 
 returns-3 : tie.Need-returns-3
-unfolding checksNumber
+unfolding checks_number
 returns-3 c =
     let e = c.before.before.before.before in
     rw (← e.before.parity-number.ensures, e.if1.false, ← tested c.before, c.if2.false)

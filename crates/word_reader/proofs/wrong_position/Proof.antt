@@ -5,10 +5,10 @@ use Prim.Native.Nat.{ℕ}
 use native.Mathlib.Omega.{arith}
 use borrow.Author.Rules.{rules}
 use lib.ListN.{length, take, drop}
-use Rattle.lists.specs.PartLaws.{length_part, take-lent, part-rest}
-use Rattle.parity_check.specs.Check.{lowestWrong}
-use Rattle.codeword.specs.Words.{runBits, parityInput}
-use Rattle.codeword.specs.Reading.{wrongPosition}
+use Rattle.lists.specs.PartLaws.{length_part, take_lent, part_rest}
+use Rattle.parity_check.specs.Check.{lowest_wrong}
+use Rattle.codeword.specs.Words.{run_bits, parity_input}
+use Rattle.codeword.specs.Reading.{wrong_position}
 use Rattle.word_reader.proofs.wrong_position.Statement.{statement}
 use Rattle.word_reader.proofs.wrong_position.Tie as tie
 
@@ -21,12 +21,12 @@ lowest-wrong-requires c κs =
     let g = s.requires.lent in
     let u = x.expand.new.1.0 in
     record {
-      ready = record { rate = record { some = g.fits.some; few = g.fits.few }; ok = g.table; long = p.put-input.auto.1.1.0 ∙ g.room; room = s.requires.sums-long };
-      all = length_part b.run-bits.result (length u) u (omega arith) ∙ omega (arith, b.run-bits.ensures, g.fits.whole, g.bits-long, x.expand.auto.1.0);
+      ready = record { rate = record { some = g.fits.some; few = g.fits.few }; ok = g.table; long = p.put-input.auto.1.1.0 ∙ g.room; room = s.requires.sums_long };
+      all = length_part b.run-bits.result (length u) u (omega arith) ∙ omega (arith, b.run-bits.ensures, g.fits.whole, g.bits_long, x.expand.auto.1.0);
     }
 
 returns : tie.Need-returns
-unfolding wrongPosition
+unfolding wrong_position
 returns c =
     let w = c.before.before in
     let p = w.before.before.before.before.before.before.before in
@@ -36,10 +36,10 @@ returns c =
     let F = a.shape in
     let u = x.expand.new.1.0 in
     let n = b.run-bits.result in
-    let z : n ≡ runBits F = b.run-bits.ensures in (
+    let z : n ≡ run_bits F = b.run-bits.ensures in (
       w.lowest-wrong.ensures.0
-          ∙ ap₂ (lowestWrong F.rows a.table.now) (p.put-input.ensures ∙ ap (parityInput F) (take-lent n (runBits F) u z)) (part-rest n u ∙ ap (λ (k : ℕ). drop k u) z)
-          ∙ ap (λ (v : List ℕ). lowestWrong F.rows a.table.now (parityInput F (take (runBits F) v)) (drop (runBits F) v)) x.expand.ensures,
+          ∙ ap₂ (lowest_wrong F.rows a.table.now) (p.put-input.ensures ∙ ap (parity_input F) (take_lent n (run_bits F) u z)) (part_rest n u ∙ ap (λ (k : ℕ). drop k u) z)
+          ∙ ap (λ (v : List ℕ). lowest_wrong F.rows a.table.now (parity_input F (take (run_bits F) v)) (drop (run_bits F) v)) x.expand.ensures,
       x.expand.ensures,
     )
 

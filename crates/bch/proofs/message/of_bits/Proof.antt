@@ -1,11 +1,11 @@
 -- `bch::message::of_bits`: the remainder's coefficients are the BCH bits.
 use borrow.Author.Rules.{rules}
-use Rattle.bch.specs.Bch.{bchBits}
+use Rattle.bch.specs.Bch.{bch_bits}
 use Rattle.bch.proofs.message.of_bits.Statement.{statement}
 use Rattle.bch.proofs.message.of_bits.Tie as tie
 
 returns : tie.Need-returns
-unfolding bchBits
+unfolding bch_bits
 returns c = cc
 
 pub of-bits-spec : {M : Type 1} → statement M

@@ -3,7 +3,7 @@ use mathlib.Core.Path.{◌≡◌}
 use borrow.Rule.Slice.PartMut.{put_mid}
 use borrow.Author.Rules.{rules}
 use Rattle.bits.specs.Digits.{digits}
-use Rattle.bch.proofs.Turns.{word-part, words-stored}
+use Rattle.bch.proofs.Turns.{word_part, words_stored}
 use Rattle.bch.proofs.message.put.Statement.{statement}
 use Rattle.bch.proofs.message.put.Tie as tie
 
@@ -20,10 +20,10 @@ returns c =
     let w = third.spread3.new.1.0 in
     let ys = put_mid 0 64 xs u in
     let zs = put_mid 64 64 ys v in
-    let a : u ≡ digits 64 r.high = word-part 0 64 xs u r.high (search rules) first.spread.ensures in
-    let b : v ≡ digits 64 r.middle = word-part 64 128 ys v r.middle (search rules) second.spread2.ensures in
-    let d : w ≡ digits 64 r.low = word-part 128 192 zs w r.low (search rules) third.spread3.ensures in
-    words-stored xs u v w r.high r.middle r.low s.requires (search rules) (search rules) a b d
+    let a : u ≡ digits 64 r.high = word_part 0 64 xs u r.high (search rules) first.spread.ensures in
+    let b : v ≡ digits 64 r.middle = word_part 64 128 ys v r.middle (search rules) second.spread2.ensures in
+    let d : w ≡ digits 64 r.low = word_part 128 192 zs w r.low (search rules) third.spread3.ensures in
+    words_stored xs u v w r.high r.middle r.low s.requires (search rules) (search rules) a b d
 
 pub put_spec : {M : Type 1} → statement M
 put_spec =

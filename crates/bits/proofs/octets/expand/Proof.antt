@@ -6,10 +6,10 @@ use native.Mathlib.Omega.{arith}
 use lib.ListN.{length}
 use borrow.Author.Rules.{rules}
 use Rattle.lists.specs.Filling.{Filling}
-use Rattle.lists.specs.FillingLaws.{filling-none, filling-part, filling-all}
+use Rattle.lists.specs.FillingLaws.{filling_none, filling_part, filling_all}
 use Rattle.bits.specs.Octets.{bits_of}
-use Rattle.bits.specs.OctetLaws.{length-bitsOf}
-use Rattle.bits.proofs.Turns.{eight-part, expand-turn}
+use Rattle.bits.specs.OctetLaws.{length_bits_of}
+use Rattle.bits.proofs.Turns.{eight_part, expand_turn}
 use Rattle.bits.proofs.octets.expand.Statement.{statement}
 use Rattle.bits.proofs.octets.expand.Tie as tie
 
@@ -27,24 +27,24 @@ decreases-loop octets bits₀ i₀ at₀ bits i at = length octets - i
 loop-holds : tie.Need-loop-init invariant-loop decreases-loop
 loop-holds c =
     let a = c.before.before.args in
-    record { passed = search rules; place = refl; filling = filling-none _ _ (length-bitsOf a.octets.now ∙ omega arith) }
+    record { passed = search rules; place = refl; filling = filling_none _ _ (length_bits_of a.octets.now ∙ omega arith) }
 
 loop-again : tie.Need-loop-preserved invariant-loop decreases-loop
 loop-again c =
     let b = c.before.before.before.before.before.before.before in
     let l = b.loop in
     let a = b.before.before.before.args in
-    let n = eight-part l.at l.bits (search rules) in
+    let n = eight_part l.at l.bits (search rules) in
     let v = c.before.before.before.before.wide.ensures.0 in
-    let d = expand-turn a.octets.now c.before.before.spread.new.1.0 l.i l.at _ _ (search rules) l.invariant.place v n c.before.before.spread.ensures in
+    let d = expand_turn a.octets.now c.before.before.spread.new.1.0 l.i l.at _ _ (search rules) l.invariant.place v n c.before.before.spread.ensures in
     record {
       passed = search rules;
       place = omega (arith, l.invariant.place);
-      filling = filling-part _ _ l.at l.bits l.invariant.filling (l.at + 8) _ (search rules) (search rules) d;
+      filling = filling_part _ _ l.at l.bits l.invariant.filling (l.at + 8) _ (search rules) (search rules) d;
     }
 
 returns : tie.Need-returns invariant-loop decreases-loop
-returns c = let l = c.before.loop in filling-all _ _ l.at l.bits l.invariant.filling (search rules)
+returns c = let l = c.before.loop in filling_all _ _ l.at l.bits l.invariant.filling (search rules)
 
 pub expand-spec : {M : Type 1} → statement M
 expand-spec =

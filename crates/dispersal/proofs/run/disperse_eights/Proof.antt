@@ -7,16 +7,16 @@ use native.Mathlib.Omega.{arith}
 use lib.ListN.{length, take}
 use borrow.Author.Rules.{rules}
 use Rattle.lists.specs.Filling.{Filling}
-use Rattle.lists.specs.FillingLaws.{filling-none, filling-rest, filling-part, filling-all}
+use Rattle.lists.specs.FillingLaws.{filling_none, filling_rest, filling_part, filling_all}
 use Rattle.lists.specs.PartLaws.{length_part}
 use Rattle.bits.specs.Digits.{digits}
 use Rattle.bits.specs.Sums.{added}
 use Rattle.dispersal.specs.Register.{after}
-use Rattle.dispersal.specs.RegisterLaws.{after_none, after-add, after-lt}
+use Rattle.dispersal.specs.RegisterLaws.{after_none, after_add, after_lt}
 use Rattle.dispersal.specs.Dispersal.{dispersed}
-use Rattle.dispersal.specs.DispersalLaws.{length-dispersed}
+use Rattle.dispersal.specs.DispersalLaws.{length_dispersed}
 use Rattle.dispersal.specs.Eights.{feedback}
-use Rattle.dispersal.specs.EightLaws.{after-fed, dispersed-eight}
+use Rattle.dispersal.specs.EightLaws.{after_fed, dispersed_eight}
 use Rattle.dispersal.proofs.run.disperse_eights.Statement.{statement}
 use Rattle.dispersal.proofs.run.disperse_eights.Tie as tie
 
@@ -39,7 +39,7 @@ loop-holds c =
       whole = search rules;
       small = c.before.requires.masked.small;
       reached = sym (after_none a.width a.mask a.register);
-      filling = filling-none _ _ (length-dispersed a.width a.mask a.register a.run.now);
+      filling = filling_none _ _ (length_dispersed a.width a.mask a.register a.run.now);
     }
 
 add-tops-requires : tie.Need-add-tops-requires invariant-loop decreases-loop
@@ -65,16 +65,16 @@ loop-again c =
     let on =
     c.jump.ensures
     ∙ ap (λ (u : List ℕ). (l.held * 2 ^ 8 + feedback u l.held 8) % 2 ^ a.width) t.masks
-    ∙ sym (after-fed a.width a.mask l.held 8 (omega arith) l.invariant.small) in
+    ∙ sym (after_fed a.width a.mask l.held 8 (omega arith) l.invariant.small) in
     let d =
     c.before.before.before.add-tops.ensures
-    ∙ ap₂ (λ (u : List ℕ) (r : ℕ). added (take (l.at + 8 - l.at) u) (digits 8 (r / 2 ^ (a.width - 8)))) (filling-rest _ _ l.at l.run l.invariant.filling) l.invariant.reached
-    ∙ sym (dispersed-eight a.width a.mask a.register l.at a.run.now t.low t.small h) in
+    ∙ ap₂ (λ (u : List ℕ) (r : ℕ). added (take (l.at + 8 - l.at) u) (digits 8 (r / 2 ^ (a.width - 8)))) (filling_rest _ _ l.at l.run l.invariant.filling) l.invariant.reached
+    ∙ sym (dispersed_eight a.width a.mask a.register l.at a.run.now t.low t.small h) in
     record {
       whole = search rules;
-      small = rw on (after-lt a.width a.mask l.held 8 l.invariant.small);
-      reached = on ∙ ap (λ (r : ℕ). after a.width a.mask r 8) l.invariant.reached ∙ sym (after-add a.width a.mask a.register l.at 8);
-      filling = filling-part _ _ l.at l.run l.invariant.filling (l.at + 8) _ (search rules) h d;
+      small = rw on (after_lt a.width a.mask l.held 8 l.invariant.small);
+      reached = on ∙ ap (λ (r : ℕ). after a.width a.mask r 8) l.invariant.reached ∙ sym (after_add a.width a.mask a.register l.at 8);
+      filling = filling_part _ _ l.at l.run l.invariant.filling (l.at + 8) _ (search rules) h d;
     }
 
 returns : tie.Need-returns invariant-loop decreases-loop
@@ -82,7 +82,7 @@ returns c =
     let l = c.before.loop in
     let a = c.before.before.before.args in
     let e : l.at ≡ length a.run.now = omega arith in
-    (l.invariant.reached ∙ ap (after a.width a.mask a.register) e, filling-all _ _ l.at l.run l.invariant.filling (search rules))
+    (l.invariant.reached ∙ ap (after a.width a.mask a.register) e, filling_all _ _ l.at l.run l.invariant.filling (search rules))
 
 pub disperse-eights-spec : {M : Type 1} → statement M
 disperse-eights-spec =

@@ -3,16 +3,16 @@ use mathlib.Core.Path.{◌≡◌, sym, ◌∙◌}
 use borrow.Author.Rules.{rules}
 use lib.ListN.{length}
 use Rattle.refusal.specs.AnswerLaws.{refused, accepted}
-use Rattle.frame.specs.Frames.{frameNumber}
-use Rattle.frame.specs.CallLaws.{frame-lent}
+use Rattle.frame.specs.Frames.{frame_number}
+use Rattle.frame.specs.CallLaws.{frame_lent}
 use Rattle.frame_coder.proofs.code.code_frame.Statement.{statement}
 use Rattle.frame_coder.proofs.code.code_frame.Tie as tie
 
 -- the number is that of a coding call
 number_is : (c : tie.After-frame-number)
     → let a = c.before.before.before.before.before.args in
-    c.frame-number.result ≡ frameNumber a.plan a.mask a.start a.tables.now (length a.source.now) (length a.frame.now)
-unfolding frameNumber
+    c.frame-number.result ≡ frame_number a.plan a.mask a.start a.tables.now (length a.source.now) (length a.frame.now)
+unfolding frame_number
 number_is c = c.frame-number.ensures.0
 
 returns : tie.Need-returns
@@ -23,9 +23,9 @@ code-slots-requires c κs =
     let b = c.before.before in
     let n = b.before.before in
     record {
-      lent = frame-lent _ _ _ _ _ _ (sym (number_is n) ∙ b.if1.false);
-      ends-long = n.frame-number.auto.1.1.1.1.1.1.1.0;
-      ends-are = n.frame-number.ensures.1 b.if1.false;
+      lent = frame_lent _ _ _ _ _ _ (sym (number_is n) ∙ b.if1.false);
+      ends_long = n.frame-number.auto.1.1.1.1.1.1.1.0;
+      ends_are = n.frame-number.ensures.1 b.if1.false;
     }
 
 returns-2 : tie.Need-returns-2

@@ -7,42 +7,42 @@ use native.Mathlib.Omega.{arith}
 use borrow.Author.Rules.{rules}
 use lib.ListN.{get_or}
 use Rattle.lists.specs.Parts.{part}
-use Rattle.plan.specs.Records.{planIn}
+use Rattle.plan.specs.Records.{plan_in}
 use Rattle.plan.specs.declared.FrameState.{FrameState}
 use Rattle.plan.specs.declared.Answer.{Answer}
-use Rattle.plan.specs.Places.{carries, placeOf}
-use Rattle.plan.specs.StateLaws.{ready-yes}
-use Rattle.slot.specs.Calls.{codeAnswer, codeArea}
-use Rattle.frame.specs.Steps.{codedAt, stateAfter}
-use Rattle.frame.specs.StepLaws.{coded-dummy}
-use Rattle.frame.specs.PlacedLaws.{Between, between, slot-taken}
-use Rattle.frame.specs.SlotBySlot.{code-answer, code-area, pass-answer}
+use Rattle.plan.specs.Places.{carries, place_of}
+use Rattle.plan.specs.StateLaws.{ready_yes}
+use Rattle.slot.specs.Calls.{code_answer, code_area}
+use Rattle.frame.specs.Steps.{coded_at, state_after}
+use Rattle.frame.specs.StepLaws.{coded_dummy}
+use Rattle.frame.specs.PlacedLaws.{Between, between, slot_taken}
+use Rattle.frame.specs.SlotBySlot.{code_answer_law, code_area_law, pass_answer}
 use Rattle.frame_coder.specs.Needs.{Coding}
 use Rattle.frame_coder.proofs.code.code_place.Statement.{statement}
 use Rattle.frame_coder.proofs.code.code_place.Tie as tie
 
 module _ {s : FrameState} {ts ends source coded : List ℕ} (q : Coding s ts ends source coded) {g : ℕ} (b : Between s ts ends g) where
   -- the slot call with that table
-  called : carries (planIn s) s.slot ≡ true
+  called : carries (plan_in s) s.slot ≡ true
       → {r : Answer} {left : List ℕ}
-      → r ≡ codeAnswer s (part (get_or ends g 0) (get_or ends (g + 1) 0) ts) source coded
-      → left ≡ codeArea s (part (get_or ends g 0) (get_or ends (g + 1) 0) ts) source coded
-      → (r.state ≡ stateAfter s) × (left ≡ codedAt s ts source coded)
+      → r ≡ code_answer s (part (get_or ends g 0) (get_or ends (g + 1) 0) ts) source coded
+      → left ≡ code_area s (part (get_or ends g 0) (get_or ends (g + 1) 0) ts) source coded
+      → (r.state ≡ state_after s) × (left ≡ coded_at s ts source coded)
   called c h k =
       let p = q.placed in
       let t = b.is in
-      let n = slot-taken s ts ends source p coded q.coded-long c in (
-        ap (λ a. a.state) h ∙ ap (λ (u : List ℕ). (codeAnswer s u source coded).state) t ∙ (code-answer s ts source coded n c).1,
-        k ∙ ap (λ (u : List ℕ). codeArea s u source coded) t ∙ code-area s ts source coded n c,
+      let n = slot_taken s ts ends source p coded q.coded_long c in (
+        ap (λ a. a.state) h ∙ ap (λ (u : List ℕ). (code_answer s u source coded).state) t ∙ (code_answer_law s ts source coded n c).1,
+        k ∙ ap (λ (u : List ℕ). code_area s u source coded) t ∙ code_area_law s ts source coded n c,
       )
 
 -- the place's kind, and its group's table
-kind-is : (c : tie.After-next-place) → let s = c.before.before.before.before.before.args.state in c.next_place.result.carries ≡ carries (planIn s) s.slot
-unfolding placeOf
+kind-is : (c : tie.After-next-place) → let s = c.before.before.before.before.before.args.state in c.next_place.result.carries ≡ carries (plan_in s) s.slot
+unfolding place_of
 kind-is c = ap (λ r. r.carries) c.next_place.ensures
 
 lies : (c : tie.After-next-place) → let a = c.before.before.before.before.before.args in Between a.state a.tables.now a.ends.now c.next_place.result.group
-unfolding placeOf
+unfolding place_of
 lies c =
     let s = c.before.before.before.before.before in
     between s.args.state s.args.tables.now s.args.ends.now s.args.source.now s.requires.placed _ (ap (λ r. r.group) c.next_place.ensures)
@@ -52,7 +52,7 @@ returns c =
     let w = c.before.before.before in
     let t = w.before.before.before.before.before in
     let p = t.before in
-    called p.before.before.before.before.before.requires (lies p) (sym (kind-is p) ∙ t.if1.true) w.code-slot.ensures.0 w.code-slot.ensures.1
+    called p.before.before.before.before.before.requires (lies p) (sym (kind-is p) ∙ t.if1.true) w.code_slot.ensures.0 w.code_slot.ensures.1
 
 returns-2 : tie.Need-returns-2
 returns-2 c =
@@ -61,15 +61,15 @@ returns-2 c =
     let s = p.before.before.before.before.before in
     let a = s.args in
     let k = sym (kind-is p) ∙ t.if1.false in (
-      ap (λ r. r.state) c.before.pass.ensures ∙ (pass-answer a.state a.tables.now s.requires.placed.ready k).1,
-      sym (coded-dummy a.state a.tables.now k a.source.now a.coded.now),
+      ap (λ r. r.state) c.before.pass.ensures ∙ (pass_answer a.state a.tables.now s.requires.placed.ready k).1,
+      sym (coded_dummy a.state a.tables.now k a.source.now a.coded.now),
     )
 
 pub code-place-spec : {M : Type 1} → statement M
 code-place-spec =
     tie.close
     (tie.spec
-    (λ c κs. ready-yes _ c.before.before.before.before.requires.placed.ready)
+    (λ c κs. ready_yes _ c.before.before.before.before.requires.placed.ready)
     (λ c. omega (arith, lies c.before))
     (λ c. omega (arith, lies c.before.before))
     (λ c. omega (arith, lies c.before.before))

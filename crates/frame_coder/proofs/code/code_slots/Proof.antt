@@ -8,16 +8,16 @@ use borrow.Rule.Slice.PartMut.{put_mid}
 use lib.ListN.{length, take}
 use Rattle.lists.specs.Parts.{part}
 use Rattle.lists.specs.Filling.{Filling}
-use Rattle.lists.specs.FillingLaws.{filling-none, filling-rest, filling-part, filling-all}
+use Rattle.lists.specs.FillingLaws.{filling_none, filling_rest, filling_part, filling_all}
 use Rattle.plan.specs.declared.Plan.{Plan}
 use Rattle.plan.specs.declared.FrameState.{FrameState}
 use Rattle.plan.specs.declared.Answer.{Answer}
-use Rattle.plan.specs.Sizes.{slotOctets}
+use Rattle.plan.specs.Sizes.{slot_octets}
 use Rattle.plan.specs.States.{opened}
-use Rattle.plan.specs.StateLaws.{open-sound}
-use Rattle.frame.specs.Steps.{codedAt, stateAfter}
-use Rattle.frame.specs.Frames.{stateBefore, slotIn, octetsOfSlot, sourceFrom, sourceIn, frame_of}
-use Rattle.frame.specs.FrameLaws.{sourceFrom-none, sourceFrom-more, sourceFrom-mono, first-state, state-more, length-slotIn, length-frameOf, slot_at}
+use Rattle.plan.specs.StateLaws.{open_sound}
+use Rattle.frame.specs.Steps.{coded_at, state_after}
+use Rattle.frame.specs.Frames.{state_before, slot_in, octets_of_slot, source_from, source_in, frame_of}
+use Rattle.frame.specs.FrameLaws.{source_from_none, source_from_more, source_from_mono, first_state, state_more, length_slot_in, length_frame_of, slot_at}
 use Rattle.frame.specs.PlacedLaws.{placed_at}
 use Rattle.frame.specs.Needs.{Framed}
 use Rattle.frame_coder.specs.Needs.{Coding}
@@ -27,9 +27,9 @@ use Rattle.frame_coder.proofs.code.code_slots.Tie as tie
 -- the first k slots are coded
 record Inv (p : Plan) (mask start : ℕ) (ts source found area : List ℕ) (s : FrameState) (from k : ℕ) : Type 0 where
   few : k ≤ 120
-  state-is : s ≡ stateBefore p mask start k
-  from_is : from ≡ sourceFrom p k
-  filling : Filling (frame_of p ts mask start source found) found (slotOctets * k) area
+  state_is : s ≡ state_before p mask start k
+  from_is : from ≡ source_from p k
+  filling : Filling (frame_of p ts mask start source found) found (slot_octets * k) area
 
 module _ {p : Plan} {mask start : ℕ} {ts ends source found : List ℕ} (q : Framed p mask start ts ends source found) where
   abbrev goal : List ℕ
@@ -40,43 +40,43 @@ module _ {p : Plan} {mask start : ℕ} {ts ends source found : List ℕ} (q : Fr
   none e =
       record {
         few = omega arith;
-        state-is = ap (λ a. a.state) e ∙ first-state p mask start q.lent.opened;
-        from_is = sym (sourceFrom-none p);
-        filling = filling-none goal found (length-frameOf p ts mask start source found q.lent.frame-long ∙ sym q.lent.frame-long);
+        state_is = ap (λ a. a.state) e ∙ first_state p mask start q.lent.opened;
+        from_is = sym (source_from_none p);
+        filling = filling_none goal found (length_frame_of p ts mask start source found q.lent.frame_long ∙ sym q.lent.frame_long);
       }
 
   -- one slot more, with n header and data octets
-  module _ {area : List ℕ} {s : FrameState} {from k n : ℕ} (i : Inv p mask start ts source found area s from k) (h : k < 120) (e : n ≡ octetsOfSlot p (k + 1)) where
-    to_is : from + n ≡ sourceFrom p (k + 1)
-    to_is = omega (arith, i.from_is, sourceFrom-more p k)
+  module _ {area : List ℕ} {s : FrameState} {from k n : ℕ} (i : Inv p mask start ts source found area s from k) (h : k < 120) (e : n ≡ octets_of_slot p (k + 1)) where
+    to_is : from + n ≡ source_from p (k + 1)
+    to_is = omega (arith, i.from_is, source_from_more p k)
 
     within : from + n ≤ length source
-    within = omega (arith, to_is, sourceFrom-mono p (k + 1) 120 (omega arith), q.lent.source-long)
+    within = omega (arith, to_is, source_from_mono p (k + 1) 120 (omega arith), q.lent.source_long)
 
-    source-part : part from (from + n) source ≡ sourceIn p source k
-    source-part = rw (to_is, i.from_is)
+    source_part : part from (from + n) source ≡ source_in p source k
+    source_part = rw (to_is, i.from_is)
 
-    area-part : part (slotOctets * k) (slotOctets * (k + 1)) area ≡ slotIn found k
-    area-part = ap (take (slotOctets * (k + 1) - slotOctets * k)) (filling-rest goal found (slotOctets * k) area i.filling)
+    area_part : part (slot_octets * k) (slot_octets * (k + 1)) area ≡ slot_in found k
+    area_part = ap (take (slot_octets * (k + 1) - slot_octets * k)) (filling_rest goal found (slot_octets * k) area i.filling)
 
-    coding : Coding s ts ends (part from (from + n) source) (part (slotOctets * k) (slotOctets * (k + 1)) area)
+    coding : Coding s ts ends (part from (from + n) source) (part (slot_octets * k) (slot_octets * (k + 1)) area)
     coding =
-        rw (i.state-is, source-part, area-part)
+        rw (i.state_is, source_part, area_part)
         (record {
           placed = placed_at p mask start ts ends source found q k h;
-          coded-long = length-slotIn found k q.lent.frame-long h;
+          coded_long = length_slot_in found k q.lent.frame_long h;
         })
 
-    more : {r : FrameState} {ys : List ℕ} → r ≡ stateAfter s → ys ≡ codedAt s ts (part from (from + n) source) (part (slotOctets * k) (slotOctets * (k + 1)) area)
-        → Inv p mask start ts source found (put_mid (slotOctets * k) (slotOctets * (k + 1) - slotOctets * k) area ys) r (from + n) (k + 1)
+    more : {r : FrameState} {ys : List ℕ} → r ≡ state_after s → ys ≡ coded_at s ts (part from (from + n) source) (part (slot_octets * k) (slot_octets * (k + 1)) area)
+        → Inv p mask start ts source found (put_mid (slot_octets * k) (slot_octets * (k + 1) - slot_octets * k) area ys) r (from + n) (k + 1)
     more {ys = ys} u v =
-        let d : ys ≡ slotIn goal k
-        = v ∙ rw (i.state-is, source-part, area-part) (sym (slot_at p ts mask start source found q.lent.frame-long k h)) in
+        let d : ys ≡ slot_in goal k
+        = v ∙ rw (i.state_is, source_part, area_part) (sym (slot_at p ts mask start source found q.lent.frame_long k h)) in
         record {
           few = omega arith;
-          state-is = u ∙ ap stateAfter i.state-is ∙ state-more p mask start k;
+          state_is = u ∙ ap state_after i.state_is ∙ state_more p mask start k;
           from_is = to_is;
-          filling = filling-part goal found (slotOctets * k) area i.filling (slotOctets * (k + 1)) ys (omega arith) (omega (arith, q.lent.frame-long)) d;
+          filling = filling_part goal found (slot_octets * k) area i.filling (slot_octets * (k + 1)) ys (omega arith) (omega (arith, q.lent.frame_long)) d;
         }
 
 abbrev invariant-loop : tie.invariant-loop
@@ -92,18 +92,18 @@ slot-octets-requires : tie.Need-slot-octets-requires invariant-loop decreases-lo
 slot-octets-requires c κs =
     let s = c.before.before.before.before.before.before.before.before in
     let a = s.args in
-    record { plan = (open-sound a.plan a.mask a.start s.requires.lent.opened).plan; low = omega arith; high = omega arith }
+    record { plan = (open_sound a.plan a.mask a.start s.requires.lent.opened).plan; low = omega arith; high = omega arith }
 
 -- the two parts that are lent lie within their areas
 lies : (c : tie.After-slot-octets invariant-loop decreases-loop)
     → let l = c.before.before.loop in
     let a = c.before.before.before.before.before.before.before.before.before.args in
-    (l.from + c.slot-octets.result ≤ length a.source.now) × (slotOctets * (l.k + 1) ≤ length l.frame)
+    (l.from + c.slot-octets.result ≤ length a.source.now) × (slot_octets * (l.k + 1) ≤ length l.frame)
 lies c =
     let l = c.before.before.loop in
     let s = c.before.before.before.before.before.before.before.before.before in (
       within s.requires l.invariant (omega (arith, c.before.loop-test.true)) c.slot-octets.ensures,
-      omega (arith, c.before.loop-test.true, l.invariant.filling.same, s.requires.lent.frame-long),
+      omega (arith, c.before.loop-test.true, l.invariant.filling.same, s.requires.lent.frame_long),
     )
 
 code-place-requires : tie.Need-code-place-requires invariant-loop decreases-loop
@@ -125,7 +125,7 @@ returns : tie.Need-returns invariant-loop decreases-loop
 returns c =
     let l = c.before.loop in
     let s = c.before.before.before.before.before.before.before.before in
-    filling-all _ _ (slotOctets * l.k) l.frame l.invariant.filling (omega (arith, c.loop-test.false, s.requires.lent.frame-long))
+    filling_all _ _ (slot_octets * l.k) l.frame l.invariant.filling (omega (arith, c.loop-test.false, s.requires.lent.frame_long))
 
 pub code-slots-spec : {M : Type 1} → statement M
 code-slots-spec =

@@ -3,16 +3,16 @@ use mathlib.Core.Path.{◌≡◌, sym, ◌∙◌}
 use borrow.Author.Rules.{rules}
 use borrow.Author.Tests.{ne_eqb}
 use lib.ListN.{length}
-use Rattle.frame.specs.Frames.{readFrameNumber}
-use Rattle.frame.specs.CallLaws.{read-lent}
+use Rattle.frame.specs.Frames.{read_frame_number}
+use Rattle.frame.specs.CallLaws.{read_lent}
 use Rattle.frame_reader.proofs.read.read_frame.Statement.{statement}
 use Rattle.frame_reader.proofs.read.read_frame.Tie as tie
 
 -- the number is that of a reading call
 number_is : (c : tie.After-frame-number)
     → let a = c.before.before.before.before.before.before.before.before.before.args in
-    c.frame-number.result ≡ readFrameNumber a.plan a.mask a.start a.tables.now (length a.source.now) (length a.frame.now) (length a.answers.now) (length a.stuff.now) (length a.positions.now)
-unfolding readFrameNumber
+    c.frame-number.result ≡ read_frame_number a.plan a.mask a.start a.tables.now (length a.source.now) (length a.frame.now) (length a.answers.now) (length a.stuff.now) (length a.positions.now)
+unfolding read_frame_number
 number_is c = rw c.before.before.each-slot.ensures at c.frame-number.ensures.0
 
 returns : tie.Need-returns
@@ -23,12 +23,12 @@ read-slots-requires c κs =
     let o = c.before.before.before.before.before in
     let n = o.before.before in
     let a = n.before.before.before.before.before.before.before.before.before.args in
-    let l = read-lent a.plan a.mask a.start a.tables.now _ _ _ _ _ (sym (number_is n) ∙ o.if1.false) in
+    let l = read_lent a.plan a.mask a.start a.tables.now _ _ _ _ _ (sym (number_is n) ∙ o.if1.false) in
     record {
-      framed = record { lent = l.3; ends-long = n.frame-number.auto.1.1.1.1.1.1.1.0; ends-are = n.frame-number.ensures.1 o.if1.false };
-      answers-long = l.0;
-      stuff-long = l.1;
-      positions-long = l.2;
+      framed = record { lent = l.3; ends_long = n.frame-number.auto.1.1.1.1.1.1.1.0; ends_are = n.frame-number.ensures.1 o.if1.false };
+      answers_long = l.0;
+      stuff_long = l.1;
+      positions_long = l.2;
     }
 
 returns-2 : tie.Need-returns-2

@@ -3,26 +3,26 @@ use mathlib.Core.Path.{◌≡◌, sym, ap, ◌∙◌}
 use mathlib.Core.List.{List}
 use Prim.Native.Nat.{ℕ}
 use borrow.Author.Rules.{rules}
-use Rattle.plan.specs.Records.{planIn}
-use Rattle.plan.specs.Places.{carries, placeOf}
-use Rattle.plan.specs.StateLaws.{ready-yes}
-use Rattle.slot.specs.Calls.{readAnswer, readArea}
-use Rattle.frame.specs.StepLaws.{answer-dummy, stuff-dummy, position-dummy, read-dummy}
-use Rattle.frame.specs.PlacedLaws.{Between, between, slot-taken}
-use Rattle.frame.specs.SlotBySlot.{read_answer, read-area, pass-answer}
+use Rattle.plan.specs.Records.{plan_in}
+use Rattle.plan.specs.Places.{carries, place_of}
+use Rattle.plan.specs.StateLaws.{ready_yes}
+use Rattle.slot.specs.Calls.{read_answer, read_area}
+use Rattle.frame.specs.StepLaws.{answer_dummy, stuff_dummy, position_dummy, read_dummy}
+use Rattle.frame.specs.PlacedLaws.{Between, between, slot_taken}
+use Rattle.frame.specs.SlotBySlot.{read_answer_law, read_area_law, pass_answer}
 use Rattle.frame_reader.proofs.read.read_place.Statement.{statement}
 use Rattle.frame_reader.proofs.read.read_place.Tie as tie
 
 next-place-requires : tie.Need-next-place-requires
-next-place-requires c κs = let s = c.before.before.before.before in ready-yes s.args.state s.requires.placed.ready
+next-place-requires c κs = let s = c.before.before.before.before in ready_yes s.args.state s.requires.placed.ready
 
 -- what the place says of the state's next slot
-kind : (c : tie.After-next-place) → let s = c.before.before.before.before.before.args.state in c.next_place.result.carries ≡ carries (planIn s) s.slot
-unfolding placeOf
+kind : (c : tie.After-next-place) → let s = c.before.before.before.before.before.args.state in c.next_place.result.carries ≡ carries (plan_in s) s.slot
+unfolding place_of
 kind c = ap (λ r. r.carries) c.next_place.ensures
 
 table : (c : tie.After-next-place) → let a = c.before.before.before.before.before.args in Between a.state a.tables.now a.ends.now c.next_place.result.group
-unfolding placeOf
+unfolding place_of
 table c =
     let s = c.before.before.before.before.before in
     between s.args.state s.args.tables.now s.args.ends.now s.args.source.now s.requires.placed _ (ap (λ r. r.group) c.next_place.ensures)
@@ -35,13 +35,13 @@ returns c =
     let a = s.args in
     let i = (table t.before).is in
     let k = sym (kind t.before) ∙ t.if1.true in
-    let z = slot-taken a.state a.tables.now a.ends.now a.source.now s.requires.placed a.received.now s.requires.received-long k in
-    let e = r.read-slot.ensures.0 ∙ ap (λ (u : List ℕ). readAnswer a.state u a.received.now a.source.now) i in
-    let w = read_answer a.state a.tables.now a.source.now a.received.now z k in (
+    let z = slot_taken a.state a.tables.now a.ends.now a.source.now s.requires.placed a.received.now s.requires.received_long k in
+    let e = r.read_slot.ensures.0 ∙ ap (λ (u : List ℕ). read_answer a.state u a.received.now a.source.now) i in
+    let w = read_answer_law a.state a.tables.now a.source.now a.received.now z k in (
       (ap (λ q. q.number) e ∙ w.0, ap (λ q. q.state) e ∙ w.1, ap (λ q. q.stuff) e ∙ w.2, ap (λ q. q.position) e ∙ w.3),
-      r.read-slot.ensures.1
-          ∙ ap (λ (u : List ℕ). readArea a.state u a.received.now a.source.now) i
-          ∙ read-area a.state a.tables.now a.source.now a.received.now z k,
+      r.read_slot.ensures.1
+          ∙ ap (λ (u : List ℕ). read_area a.state u a.received.now a.source.now) i
+          ∙ read_area_law a.state a.tables.now a.source.now a.received.now z k,
     )
 
 returns-2 : tie.Need-returns-2
@@ -53,12 +53,12 @@ returns-2 c =
     let a = s.args in
     let k = sym (kind n) ∙ p.before.if1.false in (
       (
-        ap (λ q. q.number) d ∙ sym (answer-dummy a.state a.tables.now k a.received.now),
-        ap (λ q. q.state) d ∙ ap (λ q. q.state) p.pass.ensures ∙ (pass-answer a.state a.tables.now s.requires.placed.ready k).1,
-        ap (λ q. q.stuff) d ∙ sym (stuff-dummy a.state a.tables.now k a.received.now),
-        ap (λ q. q.position) d ∙ sym (position-dummy a.state a.tables.now k a.received.now),
+        ap (λ q. q.number) d ∙ sym (answer_dummy a.state a.tables.now k a.received.now),
+        ap (λ q. q.state) d ∙ ap (λ q. q.state) p.pass.ensures ∙ (pass_answer a.state a.tables.now s.requires.placed.ready k).1,
+        ap (λ q. q.stuff) d ∙ sym (stuff_dummy a.state a.tables.now k a.received.now),
+        ap (λ q. q.position) d ∙ sym (position_dummy a.state a.tables.now k a.received.now),
       ),
-      sym (read-dummy a.state a.tables.now k a.received.now a.source.now),
+      sym (read_dummy a.state a.tables.now k a.received.now a.source.now),
     )
 
 pub read-place-spec : {M : Type 1} → statement M

@@ -8,15 +8,15 @@ use borrow.Rule.Slice.PartMut.{put_mid}
 use lib.ListN.{length, take, set}
 use Rattle.lists.specs.Parts.{part}
 use Rattle.lists.specs.Filling.{Filling}
-use Rattle.lists.specs.FillingLaws.{filling-none, filling-rest, filling-more, filling-part, filling-all}
+use Rattle.lists.specs.FillingLaws.{filling_none, filling_rest, filling_more, filling_part, filling_all}
 use Rattle.plan.specs.declared.Plan.{Plan}
 use Rattle.plan.specs.declared.FrameState.{FrameState}
-use Rattle.plan.specs.Sizes.{slotOctets}
+use Rattle.plan.specs.Sizes.{slot_octets}
 use Rattle.plan.specs.States.{opened}
-use Rattle.plan.specs.StateLaws.{open-sound}
-use Rattle.frame.specs.Steps.{answerAt, stuffAt, positionAt, readAt, stateAfter}
-use Rattle.frame.specs.Frames.{stateBefore, slotIn, octetsOfSlot, sourceFrom, sourceIn, answersOf, stuffsOf, positionsOf, sourcesOf}
-use Rattle.frame.specs.FrameLaws.{sourceFrom-none, sourceFrom-more, sourceFrom-mono, first-state, state-more, length-slotIn, length-sourcesOf, length-answersOf, answer_at, length-stuffsOf, stuff-at, length-positionsOf, position_at, source-at}
+use Rattle.plan.specs.StateLaws.{open_sound}
+use Rattle.frame.specs.Steps.{answer_at, stuff_at, position_at, read_at, state_after}
+use Rattle.frame.specs.Frames.{state_before, slot_in, octets_of_slot, source_from, source_in, answers_of, stuffs_of, positions_of, sources_of}
+use Rattle.frame.specs.FrameLaws.{source_from_none, source_from_more, source_from_mono, first_state, state_more, length_slot_in, length_sources_of, length_answers_of, answer_at_law, length_stuffs_of, stuff_at_law, length_positions_of, position_at_law, source_at}
 use Rattle.frame.specs.PlacedLaws.{placed_at}
 use Rattle.frame_reader.specs.Needs.{Reading, Answering}
 use Rattle.frame_reader.proofs.read.read_slots.Statement.{statement}
@@ -25,22 +25,22 @@ use Rattle.frame_reader.proofs.read.read_slots.Tie as tie
 -- the first k slots are read
 record Passed (p : Plan) (mask start : ℕ) (ts frame found asked told named source answers stuff positions : List ℕ) (s : FrameState) (from k : ℕ) : Type 0 where
   some : k ≤ 120
-  state-is : s ≡ stateBefore p mask start k
-  from_is : from ≡ sourceFrom p k
-  sources : Filling (sourcesOf p ts mask start frame found) found from source
-  answered : Filling (answersOf p ts mask start frame) asked k answers
-  stuffed : Filling (stuffsOf p ts mask start frame) told k stuff
-  positioned : Filling (positionsOf p ts mask start frame) named k positions
+  state_is : s ≡ state_before p mask start k
+  from_is : from ≡ source_from p k
+  sources : Filling (sources_of p ts mask start frame found) found from source
+  answered : Filling (answers_of p ts mask start frame) asked k answers
+  stuffed : Filling (stuffs_of p ts mask start frame) told k stuff
+  positioned : Filling (positions_of p ts mask start frame) named k positions
 
 -- slot k + 1, with header and data octets before `to`, can be read; then one slot more is
 record Turn (p : Plan) (mask start : ℕ) (ts ends frame found asked told named source answers stuff positions : List ℕ) (s : FrameState) (from k to : ℕ) : Type 0 where
   within : to ≤ length source
-  slot-within : slotOctets * (k + 1) ≤ length frame
-  answer-within : k < length answers
-  stuff-within : k < length stuff
-  all-positions : length positions ≡ 120
-  reading : Reading s ts ends (slotIn frame k) (part from to source)
-  more : (v x w : ℕ) (ys : List ℕ) (n : FrameState) → v ≡ answerAt s ts (slotIn frame k) → n ≡ stateAfter s → x ≡ stuffAt s ts (slotIn frame k) → w ≡ positionAt s ts (slotIn frame k) → ys ≡ readAt s ts (slotIn frame k) (part from to source)
+  slot_within : slot_octets * (k + 1) ≤ length frame
+  answer_within : k < length answers
+  stuff_within : k < length stuff
+  all_positions : length positions ≡ 120
+  reading : Reading s ts ends (slot_in frame k) (part from to source)
+  more : (v x w : ℕ) (ys : List ℕ) (n : FrameState) → v ≡ answer_at s ts (slot_in frame k) → n ≡ state_after s → x ≡ stuff_at s ts (slot_in frame k) → w ≡ position_at s ts (slot_in frame k) → ys ≡ read_at s ts (slot_in frame k) (part from to source)
       → Passed p mask start ts frame found asked told named (put_mid from (to - from) source ys) (set answers k v) (set stuff k x) (set positions k w) n to (k + 1)
 
 module _ (p : Plan) (mask start : ℕ) (ts ends frame found asked told named : List ℕ) (a : Answering p mask start ts ends found frame asked told named) where
@@ -49,51 +49,51 @@ module _ (p : Plan) (mask start : ℕ) (ts ends frame found asked told named : L
       let l = a.framed.lent in
       record {
         some = omega arith;
-        state-is = e ∙ first-state p mask start l.opened;
-        from_is = sym (sourceFrom-none p);
-        sources = filling-none _ found (length-sourcesOf p ts mask start frame found l.source-long ∙ sym l.source-long);
-        answered = filling-none _ asked (length-answersOf p ts mask start frame ∙ sym a.answers-long);
-        stuffed = filling-none _ told (length-stuffsOf p ts mask start frame ∙ sym a.stuff-long);
-        positioned = filling-none _ named (length-positionsOf p ts mask start frame ∙ sym a.positions-long);
+        state_is = e ∙ first_state p mask start l.opened;
+        from_is = sym (source_from_none p);
+        sources = filling_none _ found (length_sources_of p ts mask start frame found l.source_long ∙ sym l.source_long);
+        answered = filling_none _ asked (length_answers_of p ts mask start frame ∙ sym a.answers_long);
+        stuffed = filling_none _ told (length_stuffs_of p ts mask start frame ∙ sym a.stuff_long);
+        positioned = filling_none _ named (length_positions_of p ts mask start frame ∙ sym a.positions_long);
       }
 
-  turn : (source answers stuff positions : List ℕ) (s : FrameState) (from k to : ℕ) → Passed p mask start ts frame found asked told named source answers stuff positions s from k → k < 120 → to ≡ from + octetsOfSlot p (k + 1)
+  turn : (source answers stuff positions : List ℕ) (s : FrameState) (from k to : ℕ) → Passed p mask start ts frame found asked told named source answers stuff positions s from k → k < 120 → to ≡ from + octets_of_slot p (k + 1)
       → Turn p mask start ts ends frame found asked told named source answers stuff positions s from k to
   turn source answers stuff positions s from k to q h t =
       let l = a.framed.lent in
-      let to_is : to ≡ sourceFrom p (k + 1) = omega (arith, q.from_is, sourceFrom-more p k) in
-      let part-is : (area : List ℕ) → part from to area ≡ sourceIn p area k = λ area. ap₂ (λ (i j : ℕ). part i j area) q.from_is to_is in
-      let b : to ≤ length found = omega (arith, l.source-long, sourceFrom-mono p (k + 1) 120 (omega arith)) in
-      let as-found : part from to source ≡ sourceIn p found k = ap (take (to - from)) (filling-rest _ found from source q.sources) ∙ part-is found in
+      let to_is : to ≡ source_from p (k + 1) = omega (arith, q.from_is, source_from_more p k) in
+      let part-is : (area : List ℕ) → part from to area ≡ source_in p area k = λ area. ap₂ (λ (i j : ℕ). part i j area) q.from_is to_is in
+      let b : to ≤ length found = omega (arith, l.source_long, source_from_mono p (k + 1) 120 (omega arith)) in
+      let as-found : part from to source ≡ source_in p found k = ap (take (to - from)) (filling_rest _ found from source q.sources) ∙ part-is found in
       record {
         within = omega (arith, q.sources.same);
-        slot-within = omega (arith, l.frame-long);
-        answer-within = omega (arith, q.answered.same, a.answers-long);
-        stuff-within = omega (arith, q.stuffed.same, a.stuff-long);
-        all-positions = q.positioned.same ∙ a.positions-long;
+        slot_within = omega (arith, l.frame_long);
+        answer_within = omega (arith, q.answered.same, a.answers_long);
+        stuff_within = omega (arith, q.stuffed.same, a.stuff_long);
+        all_positions = q.positioned.same ∙ a.positions_long;
         reading =
-            rw q.state-is
+            rw q.state_is
             (record {
               placed = rw as-found (placed_at p mask start ts ends found frame a.framed k h);
-              received-long = length-slotIn frame k l.frame-long h;
+              received_long = length_slot_in frame k l.frame_long h;
             });
         more = λ v x w ys n e d i j y.
             record {
               some = omega arith;
-              state-is = d ∙ ap stateAfter q.state-is ∙ state-more p mask start k;
+              state_is = d ∙ ap state_after q.state_is ∙ state_more p mask start k;
               from_is = to_is;
               sources =
-                  filling-part _ found from source q.sources to ys (omega arith) b
-                  (y ∙ ap₂ (λ z u. readAt z ts (slotIn frame k) u) q.state-is as-found ∙ sym (part-is (sourcesOf p ts mask start frame found) ∙ source-at p ts mask start frame found l.source-long k h));
+                  filling_part _ found from source q.sources to ys (omega arith) b
+                  (y ∙ ap₂ (λ z u. read_at z ts (slot_in frame k) u) q.state_is as-found ∙ sym (part-is (sources_of p ts mask start frame found) ∙ source_at p ts mask start frame found l.source_long k h));
               answered =
-                  filling-more _ asked k answers q.answered v (omega (arith, a.answers-long))
-                  (e ∙ ap (λ z. answerAt z ts (slotIn frame k)) q.state-is ∙ sym (answer_at p ts mask start frame k h));
+                  filling_more _ asked k answers q.answered v (omega (arith, a.answers_long))
+                  (e ∙ ap (λ z. answer_at z ts (slot_in frame k)) q.state_is ∙ sym (answer_at_law p ts mask start frame k h));
               stuffed =
-                  filling-more _ told k stuff q.stuffed x (omega (arith, a.stuff-long))
-                  (i ∙ ap (λ z. stuffAt z ts (slotIn frame k)) q.state-is ∙ sym (stuff-at p ts mask start frame k h));
+                  filling_more _ told k stuff q.stuffed x (omega (arith, a.stuff_long))
+                  (i ∙ ap (λ z. stuff_at z ts (slot_in frame k)) q.state_is ∙ sym (stuff_at_law p ts mask start frame k h));
               positioned =
-                  filling-more _ named k positions q.positioned w (omega (arith, a.positions-long))
-                  (j ∙ ap (λ z. positionAt z ts (slotIn frame k)) q.state-is ∙ sym (position_at p ts mask start frame k h));
+                  filling_more _ named k positions q.positioned w (omega (arith, a.positions_long))
+                  (j ∙ ap (λ z. position_at z ts (slot_in frame k)) q.state_is ∙ sym (position_at_law p ts mask start frame k h));
             };
       }
 
@@ -112,7 +112,7 @@ loop-holds c =
 slot-octets-requires : tie.Need-slot-octets-requires invariant-loop decreases-loop
 slot-octets-requires c κs =
     let s = c.before.before.before.before.before.before.before.before.before.before.before in
-    record { plan = (open-sound _ _ _ s.requires.framed.lent.opened).plan; low = omega arith; high = omega arith }
+    record { plan = (open_sound _ _ _ s.requires.framed.lent.opened).plan; low = omega arith; high = omega arith }
 
 -- the turn at a place of the code
 turn_at : (c : tie.After-slot-octets invariant-loop decreases-loop)
@@ -140,13 +140,13 @@ returns c =
     let l = c.before.loop in
     let s = c.before.before.before.before.before.before.before.before.before.before.before in
     let e : l.k ≡ 120 = omega arith in
-    let f : l.from ≡ sourceFrom s.args.plan 120 = l.invariant.from_is ∙ ap (sourceFrom s.args.plan) e in (
-      filling-all _ _ l.from l.source l.invariant.sources (omega (arith, s.requires.framed.lent.source-long)),
+    let f : l.from ≡ source_from s.args.plan 120 = l.invariant.from_is ∙ ap (source_from s.args.plan) e in (
+      filling_all _ _ l.from l.source l.invariant.sources (omega (arith, s.requires.framed.lent.source_long)),
       (
-        filling-all _ _ l.k l.answers l.invariant.answered (omega (arith, s.requires.answers-long)),
+        filling_all _ _ l.k l.answers l.invariant.answered (omega (arith, s.requires.answers_long)),
         (
-          filling-all _ _ l.k l.stuff l.invariant.stuffed (omega (arith, s.requires.stuff-long)),
-          filling-all _ _ l.k l.positions l.invariant.positioned (omega (arith, s.requires.positions-long)),
+          filling_all _ _ l.k l.stuff l.invariant.stuffed (omega (arith, s.requires.stuff_long)),
+          filling_all _ _ l.k l.positions l.invariant.positioned (omega (arith, s.requires.positions_long)),
         ),
       ),
     )
@@ -171,10 +171,10 @@ read-slots-spec =
     (λ c. let h = turn_at c.before in search rules)
     (λ c. let h = turn_at c.before in search rules)
     (λ c κs. (turn_at c.before.before).reading)
-    (λ c. (turn_at c.before.before.before.before.before).answer-within)
-    (λ c. (turn_at c.before.before.before.before.before).stuff-within)
+    (λ c. (turn_at c.before.before.before.before.before).answer_within)
+    (λ c. (turn_at c.before.before.before.before.before).stuff_within)
     (λ c. search rules)
-    (λ c. omega (arith, (turn_at c.before.before.before.before.before).all-positions))
+    (λ c. omega (arith, (turn_at c.before.before.before.before.before).all_positions))
     (λ c. omega arith)
     loop-again
     (λ c. c.before.loop.invariant.sources.same)

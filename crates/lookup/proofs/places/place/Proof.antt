@@ -3,12 +3,12 @@ use mathlib.Core.Path.{sym, ap, ◌∙◌}
 use borrow.Author.Rules.{rules}
 use borrow.Author.Tests.{eq-eqb, ne_eqb}
 use Rattle.lookup.specs.Lookups.{placed}
-use Rattle.lookup.specs.LookupLaws.{slot-there}
+use Rattle.lookup.specs.LookupLaws.{slot_there}
 use Rattle.lookup.proofs.places.place.Statement.{statement}
 use Rattle.lookup.proofs.places.place.Tie as tie
 
 place-of-requires : tie.Need-place-of-requires
-place-of-requires c κs = slot-there _ _ (sym c.before.place-number.ensures ∙ c.if1.true)
+place-of-requires c κs = slot_there _ _ (sym c.before.place-number.ensures ∙ c.if1.true)
 
 returns : tie.Need-returns
 unfolding placed

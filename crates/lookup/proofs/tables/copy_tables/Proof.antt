@@ -4,24 +4,24 @@ use native.Mathlib.Omega.{arith}
 use borrow.Author.Rules.{rules}
 use borrow.Author.Tests.{eq-eqb, ne_eqb}
 use lib.ListN.{length}
-use Rattle.lists.specs.ChoiceLaws.{then-first, then_next}
+use Rattle.lists.specs.ChoiceLaws.{then_first, then_next}
 use Rattle.refusal.specs.AnswerLaws.{refused, accepted}
-use Rattle.plan.specs.Plans.{planNumber}
-use Rattle.lookup.specs.Lookups.{tables_of, tablesNumber}
+use Rattle.plan.specs.Plans.{plan_number}
+use Rattle.lookup.specs.Lookups.{tables_of, tables_number}
 use Rattle.lookup.proofs.tables.copy_tables.Statement.{statement}
 use Rattle.lookup.proofs.tables.copy_tables.Tie as tie
 
-none : (c : tie.Else1) → planNumber c.before.before.before.args.plan ≡ 0
+none : (c : tie.Else1) → plan_number c.before.before.before.args.plan ≡ 0
 none c = sym c.before.plan-number.ensures ∙ c.if1.false
 
 returns : tie.Need-returns
-unfolding tablesNumber
+unfolding tables_number
 returns c =
     let n = c.before.plan-number.ensures in
-    refused _ _ _ _ (n ∙ sym (then-first _ _ (λ z. c.if1.true (n ∙ z)))) c.if1.true
+    refused _ _ _ _ (n ∙ sym (then_first _ _ (λ z. c.if1.true (n ∙ z)))) c.if1.true
 
 returns-2 : tie.Need-returns-2
-unfolding tablesNumber
+unfolding tables_number
 returns-2 c =
     let s = c.before.before.before.before.before in
     let l : length s.args.tables.now ≡ length (tables_of s.args.plan) → ⊥ = λ z. omega (arith, z, c.if2.true, c.before.entries.ensures) in
@@ -32,7 +32,7 @@ long : (c : tie.Else2) → let a = c.before.before.before.before.before.args in 
 long c = c.if2.false ∙ c.before.entries.ensures
 
 returns-3 : tie.Need-returns-3
-unfolding tablesNumber
+unfolding tables_number
 returns-3 c =
     let k = c.before.before in
     let e = k.before.before in

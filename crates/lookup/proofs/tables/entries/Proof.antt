@@ -5,7 +5,7 @@ use native.Mathlib.Omega.{arith}
 use borrow.Author.Rules.{rules}
 use Rattle.plan.specs.declared.Plan.{Plan}
 use Rattle.plan.specs.PlanLaws.{accepted}
-use Rattle.lookup.specs.LookupLaws.{tableStart, start_none, start-more, start-all}
+use Rattle.lookup.specs.LookupLaws.{table_start, start_none, start_more, start_all}
 use Rattle.lookup.proofs.tables.entries.Statement.{statement}
 use Rattle.lookup.proofs.tables.entries.Tie as tie
 
@@ -14,7 +14,7 @@ record Inv (p : Plan) (count sum g : ℕ) : Type 0 where
   few : count ≤ 8
   passed : g ≤ count
   small : sum ≤ 510 * g
-  sum_is : sum ≡ tableStart p g
+  sum_is : sum ≡ table_start p g
 
 abbrev invariant-loop : tie.invariant-loop
 invariant-loop plan count sum₀ g₀ sum g = Inv plan count sum g
@@ -43,7 +43,7 @@ loop-again c =
       few = l.invariant.few;
       passed = search rules;
       small = omega (arith, c.table-length.ensures.1, l.invariant.small);
-      sum_is = omega (arith, c.table-length.ensures.0, l.invariant.sum_is, l.invariant.all, start-more s.args.t1 s.requires l.g (omega (arith, l.invariant.all)));
+      sum_is = omega (arith, c.table-length.ensures.0, l.invariant.sum_is, l.invariant.all, start_more s.args.t1 s.requires l.g (omega (arith, l.invariant.all)));
     }
 
 returns : tie.Need-returns invariant-loop decreases-loop
@@ -51,7 +51,7 @@ returns c =
     let l = c.before.loop in
     let p = c.before.before.before.args.t1 in
     let e : l.g ≡ p.count = omega (arith, l.invariant.all, l.invariant.passed) in
-    l.invariant.sum_is ∙ ap (tableStart p) e ∙ start-all p
+    l.invariant.sum_is ∙ ap (table_start p) e ∙ start_all p
 
 pub entries-spec : {M : Type 1} → statement M
 entries-spec =

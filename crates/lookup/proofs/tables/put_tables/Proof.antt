@@ -5,11 +5,11 @@ use Prim.Native.Nat.{ℕ, ◌+◌, ◌-◌, ◌≤◌}
 use native.Mathlib.Omega.{arith}
 use borrow.Author.Rules.{rules}
 use Rattle.lists.specs.Filling.{Filling}
-use Rattle.lists.specs.FillingLaws.{filling-none, filling-all}
+use Rattle.lists.specs.FillingLaws.{filling_none, filling_all}
 use Rattle.plan.specs.declared.Plan.{Plan}
 use Rattle.plan.specs.PlanLaws.{accepted}
 use Rattle.lookup.specs.Lookups.{tables_of}
-use Rattle.lookup.specs.LookupLaws.{tableStart, start_none, start-more, start-all, start-within, table-put}
+use Rattle.lookup.specs.LookupLaws.{table_start, start_none, start_more, start_all, start_within, table_put}
 use Rattle.lookup.proofs.tables.put_tables.Statement.{statement}
 use Rattle.lookup.proofs.tables.put_tables.Tie as tie
 
@@ -17,7 +17,7 @@ record Inv (p : Plan) (count : ℕ) (found tables : List ℕ) (at g : ℕ) : Typ
   all : count ≡ p.count
   few : count ≤ 8
   passed : g ≤ count
-  place : at ≡ tableStart p g
+  place : at ≡ table_start p g
   filling : Filling (tables_of p) found at tables
 
 abbrev invariant-loop : tie.invariant-loop
@@ -34,18 +34,18 @@ loop-holds c =
       few = omega (arith, c.index.ensures.0, (accepted s.args.t1 s.requires.plan).high);
       passed = search rules;
       place = sym (start_none s.args.t1);
-      filling = filling-none _ _ (sym s.requires.long);
+      filling = filling_none _ _ (sym s.requires.long);
     }
 
 -- the end of a group's table
 ends : (c : tie.After-table-length invariant-loop decreases-loop)
     → let l = c.before.before.before.loop in
-    l.at + c.table-length.result ≡ tableStart c.before.before.before.before.before.before.args.t1 (l.g + 1)
+    l.at + c.table-length.result ≡ table_start c.before.before.before.before.before.before.args.t1 (l.g + 1)
 ends c =
     let a = c.before.before.before in
     let l = a.loop in
     let s = a.before.before.before in
-    omega (arith, c.table-length.ensures.0, l.invariant.place, start-more s.args.t1 s.requires.plan l.g (omega (arith, l.invariant.all)))
+    omega (arith, c.table-length.ensures.0, l.invariant.place, start_more s.args.t1 s.requires.plan l.g (omega (arith, l.invariant.all)))
 
 within : (c : tie.After-table-length invariant-loop decreases-loop)
     → let l = c.before.before.before.loop in
@@ -54,7 +54,7 @@ within c =
     let a = c.before.before.before in
     let l = a.loop in
     let p = a.before.before.before.args.t1 in
-    omega (arith, ends c, start-within p (l.g + 1) (omega (arith, l.invariant.all)), l.invariant.filling.long, l.invariant.filling.same)
+    omega (arith, ends c, start_within p (l.g + 1) (omega (arith, l.invariant.all)), l.invariant.filling.long, l.invariant.filling.same)
 
 loop-again : tie.Need-loop-preserved invariant-loop decreases-loop
 loop-again c =
@@ -69,7 +69,7 @@ loop-again c =
       passed = search rules;
       place = ends t;
       filling =
-          table-put s.args.t1 s.requires.plan l.g (omega (arith, l.invariant.all)) l.at _ _ l.tables _ _ l.invariant.place (ap (λ (n : ℕ). l.at + n) t.table-length.ensures.0) l.invariant.filling
+          table_put s.args.t1 s.requires.plan l.g (omega (arith, l.invariant.all)) l.at _ _ l.tables _ _ l.invariant.place (ap (λ (n : ℕ). l.at + n) t.table-length.ensures.0) l.invariant.filling
           k.copy-table.ensures;
     }
 
@@ -78,8 +78,8 @@ returns c =
     let l = c.before.loop in
     let p = c.before.before.before.before.args.t1 in
     let e : l.g ≡ p.count = omega (arith, l.invariant.all, l.invariant.passed) in
-    let d = l.invariant.place ∙ ap (tableStart p) e ∙ start-all p in
-    filling-all _ _ l.at l.tables l.invariant.filling (omega (arith, d, l.invariant.filling.long))
+    let d = l.invariant.place ∙ ap (table_start p) e ∙ start_all p in
+    filling_all _ _ l.at l.tables l.invariant.filling (omega (arith, d, l.invariant.filling.long))
 
 pub put-tables-spec : {M : Type 1} → statement M
 put-tables-spec =

@@ -6,14 +6,14 @@ use native.Mathlib.Omega.{arith}
 use borrow.Author.Rules.{rules}
 use lib.ListN.{get_or}
 use Rattle.numerals.specs.Needs.{Digits}
-use Rattle.numerals.specs.Numerals.{digitOf, value_of}
-use Rattle.numerals.specs.NumeralLaws.{value_none, value-more, value-small}
+use Rattle.numerals.specs.Numerals.{digit_of, value_of}
+use Rattle.numerals.specs.NumeralLaws.{value_none, value_more, value_small}
 use Rattle.numerals.proofs.digits.value.Statement.{statement}
 use Rattle.numerals.proofs.digits.value.Tie as tie
 
 record Inv (base : ℕ) (text : List ℕ) (at count made k : ℕ) : Type 0 where
   within : k ≤ count
-  made-is : made ≡ value_of base text at k
+  made_is : made ≡ value_of base text at k
 
 abbrev invariant-loop : tie.invariant-loop
 invariant-loop base text at count made₀ k₀ made k = Inv base text at count made k
@@ -22,28 +22,28 @@ abbrev decreases-loop : tie.decreases-loop
 decreases-loop base text at count made₀ k₀ made k = count - k
 
 loop-holds : tie.Need-loop-init invariant-loop decreases-loop
-loop-holds c = record { within = omega arith; made-is = sym (value_none _ _ _) }
+loop-holds c = record { within = omega arith; made_is = sym (value_none _ _ _) }
 
 -- the number with one digit more is small too
 small : (base : ℕ) (text : List ℕ) (at count k : ℕ) → Digits base text at count → k < count
-    → value_of base text at k * base + digitOf (get_or text (at + k) 0) < 1099511627776
+    → value_of base text at k * base + digit_of (get_or text (at + k) 0) < 1099511627776
 small base text at count k d h =
-    omega (arith, value-more base text at k, value-small base text at (k + 1) d.small (omega (arith, d.few)) (λ j l. d.right j (omega arith)))
+    omega (arith, value_more base text at k, value_small base text at (k + 1) d.small (omega (arith, d.few)) (λ j l. d.right j (omega arith)))
 
 next : (c : tie.In-loop invariant-loop decreases-loop)
     → let l = c.before.loop in
     let a = c.before.before.before.args in
-    l.made * a.base + digitOf (get_or a.text.now (a.at + l.k) 0) < 1099511627776
+    l.made * a.base + digit_of (get_or a.text.now (a.at + l.k) 0) < 1099511627776
 next c =
     let l = c.before.loop in
     let s = c.before.before.before in
-    rw l.invariant.made-is (small s.args.base s.args.text.now s.args.at s.args.count l.k s.requires c.loop-test.true)
+    rw l.invariant.made_is (small s.args.base s.args.text.now s.args.at s.args.count l.k s.requires c.loop-test.true)
 
 -- the digit that the turn reads
 read : (c : tie.After-digit invariant-loop decreases-loop)
     → let b = c.before.before in
-    c.digit.result ≡ digitOf (get_or b.before.before.before.args.text.now (b.before.before.before.args.at + b.before.loop.k) 0)
-read c = c.digit.ensures ∙ ap digitOf c.before.octet-at.ensures
+    c.digit.result ≡ digit_of (get_or b.before.before.before.args.text.now (b.before.before.before.args.at + b.before.loop.k) 0)
+read c = c.digit.ensures ∙ ap digit_of c.before.octet-at.ensures
 
 mul-made : tie.Need-overflow-mul-made invariant-loop decreases-loop
 mul-made c = omega (arith, next c)
@@ -63,7 +63,7 @@ loop-again c =
     let a = b.before.before.before.args in
     record {
       within = search rules;
-      made-is = ap₂ (λ (x y : ℕ). x * a.base + y) l.invariant.made-is (read c) ∙ sym (value-more a.base a.text.now a.at l.k);
+      made_is = ap₂ (λ (x y : ℕ). x * a.base + y) l.invariant.made_is (read c) ∙ sym (value_more a.base a.text.now a.at l.k);
     }
 
 returns : tie.Need-returns invariant-loop decreases-loop
@@ -71,7 +71,7 @@ returns c =
     let l = c.before.loop in
     let a = c.before.before.before.args in
     let e : l.k ≡ a.count = omega (arith, l.invariant.within) in
-    l.invariant.made-is ∙ ap (value_of a.base a.text.now a.at) e
+    l.invariant.made_is ∙ ap (value_of a.base a.text.now a.at) e
 
 pub value_spec : {M : Type 1} → statement M
 value_spec =

@@ -4,7 +4,7 @@ use Prim.Native.Nat.{ℕ, ◌*◌}
 use borrow.Author.Rules.{rules}
 use Rattle.refusal.specs.AnswerLaws.{refused, accepted}
 use Rattle.packets.specs.Packets.{packed}
-use Rattle.packets.specs.PacketLaws.{pack-ready}
+use Rattle.packets.specs.PacketLaws.{pack_ready}
 use Rattle.packets.proofs.calls.pack.Statement.{statement}
 use Rattle.packets.proofs.calls.pack.Tie as tie
 
@@ -14,7 +14,7 @@ returns c = refused _ _ _ _ c.before.pack-number.ensures c.if1.true
 leave-out-requires : tie.Need-leave-out-requires
 leave-out-requires c κs =
     let b = c.before.before in
-    let s = (pack-ready _ _ _ (sym b.before.pack-number.ensures ∙ b.if1.false)).sized in
+    let s = (pack_ready _ _ _ (sym b.before.pack-number.ensures ∙ b.if1.false)).sized in
     let n = sym c.before.packets.ensures in
     record { packets = s.packets ∙ ap (λ (k : ℕ). 188 * k) n; octets = s.octets ∙ ap (λ (k : ℕ). 187 * k) n }
 

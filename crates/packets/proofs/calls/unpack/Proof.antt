@@ -3,13 +3,13 @@ use mathlib.Core.Path.{sym, ap, ◌∙◌}
 use Prim.Native.Nat.{ℕ, ◌*◌}
 use borrow.Author.Rules.{rules}
 use Rattle.refusal.specs.AnswerLaws.{refused, accepted}
-use Rattle.packets.specs.Packets.{unpacked, unpackNumber}
+use Rattle.packets.specs.Packets.{unpacked, unpack_number}
 use Rattle.packets.specs.PacketLaws.{sized}
 use Rattle.packets.proofs.calls.unpack.Statement.{statement}
 use Rattle.packets.proofs.calls.unpack.Tie as tie
 
 returns : tie.Need-returns
-unfolding unpackNumber
+unfolding unpack_number
 returns c = refused _ _ _ _ c.before.size_number.ensures c.if1.true
 
 put-back-requires : tie.Need-put-back-requires
@@ -20,7 +20,7 @@ put-back-requires c κs =
     record { packets = s.packets ∙ ap (λ (k : ℕ). 188 * k) n; octets = s.octets ∙ ap (λ (k : ℕ). 187 * k) n }
 
 returns-2 : tie.Need-returns-2
-unfolding unpackNumber
+unfolding unpack_number
 returns-2 c =
     let p = c.before.before in
     let b = p.before.before.before in

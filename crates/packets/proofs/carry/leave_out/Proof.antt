@@ -5,10 +5,10 @@ use Prim.Native.Nat.{ℕ, ◌+◌, ◌*◌, ◌-◌, ◌≤◌}
 use native.Mathlib.Omega.{arith}
 use borrow.Author.Rules.{rules}
 use Rattle.lists.specs.Filling.{Filling}
-use Rattle.lists.specs.FillingLaws.{filling-none, filling-part, filling-all}
+use Rattle.lists.specs.FillingLaws.{filling_none, filling_part, filling_all}
 use Rattle.packets.specs.Packets.{packed}
-use Rattle.packets.specs.PacketLaws.{length-packed}
-use Rattle.packets.proofs.Turns.{leave-turn}
+use Rattle.packets.specs.PacketLaws.{length_packed}
+use Rattle.packets.proofs.Turns.{leave_turn}
 use Rattle.packets.proofs.carry.leave_out.Statement.{statement}
 use Rattle.packets.proofs.carry.leave_out.Tie as tie
 
@@ -31,23 +31,23 @@ loop-holds c =
       passed = search rules;
       source = refl;
       place = refl;
-      filling = filling-none _ _ (length-packed s.args.count s.args.packets.now s.requires.packets ∙ sym s.requires.octets);
+      filling = filling_none _ _ (length_packed s.args.count s.args.packets.now s.requires.packets ∙ sym s.requires.octets);
     }
 
 loop-again : tie.Need-loop-preserved invariant-loop decreases-loop
 loop-again c =
     let l = c.before.before.before.before.before.before.loop in
     let s = c.before.before.before.before.before.before.before.before.before in
-    let d = leave-turn s.args.count l.i (search rules) l.from l.at _ s.args.packets.now s.requires.packets l.invariant.source l.invariant.place c.before.before.copy.ensures in
+    let d = leave_turn s.args.count l.i (search rules) l.from l.at _ s.args.packets.now s.requires.packets l.invariant.source l.invariant.place c.before.before.copy.ensures in
     record {
       passed = search rules;
       source = omega (arith, l.invariant.source);
       place = omega (arith, l.invariant.place);
-      filling = filling-part _ _ l.at l.octets l.invariant.filling (l.at + 187) _ (search rules) (search rules) d;
+      filling = filling_part _ _ l.at l.octets l.invariant.filling (l.at + 187) _ (search rules) (search rules) d;
     }
 
 returns : tie.Need-returns invariant-loop decreases-loop
-returns c = let l = c.before.loop in filling-all _ _ l.at l.octets l.invariant.filling (search rules)
+returns c = let l = c.before.loop in filling_all _ _ l.at l.octets l.invariant.filling (search rules)
 
 pub leave-out-spec : {M : Type 1} → statement M
 leave-out-spec =

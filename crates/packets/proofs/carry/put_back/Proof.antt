@@ -6,10 +6,10 @@ use native.Mathlib.Omega.{arith}
 use lib.ListN.{get_or, length-set}
 use borrow.Author.Rules.{rules}
 use Rattle.lists.specs.Filling.{Filling}
-use Rattle.lists.specs.FillingLaws.{filling-none, filling-more, filling-part, filling-all}
+use Rattle.lists.specs.FillingLaws.{filling_none, filling_more, filling_part, filling_all}
 use Rattle.packets.specs.Packets.{unpacked}
-use Rattle.packets.specs.PacketLaws.{length-unpacked, unpacked-first}
-use Rattle.packets.proofs.Turns.{back-turn}
+use Rattle.packets.specs.PacketLaws.{length_unpacked, unpacked_first}
+use Rattle.packets.proofs.Turns.{back_turn}
 use Rattle.packets.proofs.carry.put_back.Statement.{statement}
 use Rattle.packets.proofs.carry.put_back.Tie as tie
 
@@ -32,7 +32,7 @@ loop-holds c =
       passed = search rules;
       source = refl;
       place = refl;
-      filling = filling-none _ _ (length-unpacked s.args.count s.args.octets.now s.requires.octets ∙ sym s.requires.packets);
+      filling = filling_none _ _ (length_unpacked s.args.count s.args.octets.now s.requires.octets ∙ sym s.requires.packets);
     }
 
 loop-again : tie.Need-loop-preserved invariant-loop decreases-loop
@@ -41,18 +41,18 @@ loop-again c =
     let s = c.before.before.before.before.before.before.before.before.before in
     let n = s.args.count in
     let u = s.args.octets.now in
-    let x : get_or (unpacked n u) l.at 0 ≡ 0x47 = ap (λ (k : ℕ). get_or (unpacked n u) k 0) l.invariant.place ∙ unpacked-first n u s.requires.octets l.i (search rules) in
-    let f = filling-more _ _ l.at l.packets l.invariant.filling 0x47 (search rules) (sym x) in
-    let d = back-turn n l.i (search rules) l.from l.at _ u s.requires.octets l.invariant.source l.invariant.place c.before.before.copy.ensures in
+    let x : get_or (unpacked n u) l.at 0 ≡ 0x47 = ap (λ (k : ℕ). get_or (unpacked n u) k 0) l.invariant.place ∙ unpacked_first n u s.requires.octets l.i (search rules) in
+    let f = filling_more _ _ l.at l.packets l.invariant.filling 0x47 (search rules) (sym x) in
+    let d = back_turn n l.i (search rules) l.from l.at _ u s.requires.octets l.invariant.source l.invariant.place c.before.before.copy.ensures in
     record {
       passed = search rules;
       source = omega (arith, l.invariant.source);
       place = omega (arith, l.invariant.place);
-      filling = filling-part _ _ (l.at + 1) _ f (l.at + 188) _ (search rules) (search rules) d;
+      filling = filling_part _ _ (l.at + 1) _ f (l.at + 188) _ (search rules) (search rules) d;
     }
 
 returns : tie.Need-returns invariant-loop decreases-loop
-returns c = let l = c.before.loop in filling-all _ _ l.at l.packets l.invariant.filling (search rules)
+returns c = let l = c.before.loop in filling_all _ _ l.at l.packets l.invariant.filling (search rules)
 
 pub put-back-spec : {M : Type 1} → statement M
 put-back-spec =

@@ -8,15 +8,15 @@ use lib.ListN.{get_or}
 use borrow.Author.Rules.{rules}
 use borrow.Author.Tests.{eq-eqb, ne_eqb}
 use Rattle.lists.specs.Count.{every}
-use Rattle.lists.specs.CountLaws.{every-none, every-next, every-not}
-use Rattle.packets.specs.Packets.{syncOctet, beginsSync}
+use Rattle.lists.specs.CountLaws.{every_none, every_next, every_not}
+use Rattle.packets.specs.Packets.{sync_octet, begins_sync}
 use Rattle.packets.proofs.carry.syncs_ok.Statement.{statement}
 use Rattle.packets.proofs.carry.syncs_ok.Tie as tie
 
 record Inv (count : ℕ) (packets : List ℕ) (i at : ℕ) : Type 0 where
   passed : i ≤ count
   place : at ≡ 188 * i
-  right : every i (beginsSync packets) ≡ true
+  right : every i (begins_sync packets) ≡ true
 
 abbrev invariant-loop : tie.invariant-loop
 invariant-loop count packets i₀ at₀ i at = Inv count packets i at
@@ -25,14 +25,14 @@ abbrev decreases-loop : tie.decreases-loop
 decreases-loop count packets i₀ at₀ i at = count - i
 
 loop-holds : tie.Need-loop-init invariant-loop decreases-loop
-loop-holds c = record { passed = search rules; place = refl; right = every-none _ }
+loop-holds c = record { passed = search rules; place = refl; right = every_none _ }
 
 returns : tie.Need-returns invariant-loop decreases-loop
 returns c =
     let l = c.before.before.before.loop in
     let a = c.before.before.before.before.args in
     let p = a.packets.now in
-    sym (every-not a.count (beginsSync p) l.i (search rules) (rw (← l.invariant.place) (ne_eqb (get_or p l.at 0) syncOctet c.if1.true)))
+    sym (every_not a.count (begins_sync p) l.i (search rules) (rw (← l.invariant.place) (ne_eqb (get_or p l.at 0) sync_octet c.if1.true)))
 
 loop-again : tie.Need-loop-preserved invariant-loop decreases-loop
 loop-again c =
@@ -41,7 +41,7 @@ loop-again c =
     record {
       passed = search rules;
       place = omega (arith, l.invariant.place);
-      right = every-next l.i (beginsSync p) l.invariant.right (rw (← l.invariant.place) (eq-eqb (get_or p l.at 0) syncOctet c.if1.false));
+      right = every_next l.i (begins_sync p) l.invariant.right (rw (← l.invariant.place) (eq-eqb (get_or p l.at 0) sync_octet c.if1.false));
     }
 
 returns-2 : tie.Need-returns-2 invariant-loop decreases-loop
@@ -49,7 +49,7 @@ returns-2 c =
     let l = c.before.loop in
     let a = c.before.before.args in
     let e : l.i ≡ a.count = omega arith in
-    sym l.invariant.right ∙ ap (λ (n : ℕ). every n (beginsSync a.packets.now)) e
+    sym l.invariant.right ∙ ap (λ (n : ℕ). every n (begins_sync a.packets.now)) e
 
 pub syncs-ok-spec : {M : Type 1} → statement M
 syncs-ok-spec =

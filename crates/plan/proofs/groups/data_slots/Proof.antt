@@ -3,7 +3,7 @@ use Prim.Native.Nat.{◌≤◌}
 use native.Mathlib.Nat.{mul-le-mul}
 use native.Mathlib.Omega.{arith}
 use borrow.Author.Rules.{rules}
-use Rattle.plan.specs.Plans.{dataSlotsOf}
+use Rattle.plan.specs.Plans.{data_slots_of}
 use Rattle.plan.proofs.groups.data_slots.Statement.{statement}
 use Rattle.plan.proofs.groups.data_slots.Tie as tie
 
@@ -14,7 +14,7 @@ mul-result c =
     omega (arith, mul-le-mul s m)
 
 returns : tie.Need-returns
-unfolding dataSlotsOf
+unfolding data_slots_of
 returns c = rw (c.before.before.index.ensures.0, c.index2.ensures.0)
 
 pub data-slots-spec : {M : Type 1} → statement M

@@ -2,7 +2,7 @@
 use mathlib.Core.Path.{sym, ◌∙◌}
 use Prim.Native.Nat.{◌≤◌}
 use borrow.Author.Rules.{rules}
-use Rattle.plan.specs.Plans.{groupsOk, planNumber}
+use Rattle.plan.specs.Plans.{groups_ok, plan_number}
 use Rattle.plan.specs.RateLaws.{between}
 use Rattle.plan.proofs.groups.plan_number.Statement.{statement}
 use Rattle.plan.proofs.groups.plan_number.Tie as tie
@@ -12,7 +12,7 @@ few : (c : tie.Then1) → c.before.before.before.args.plan.count ≤ 8
 few c = (between 1 8 c.before.before.before.args.plan.count (sym c.before.known.ensures ∙ c.if1.true)).high
 
 returns : tie.Need-returns
-unfolding planNumber groupsOk
+unfolding plan_number groups_ok
 returns c =
     let t = c.before in
     let f = t.before in
@@ -20,7 +20,7 @@ returns c =
     rw (sym v.before.before.known.ensures ∙ v.before.if1.true, ← v.all-values-ok.ensures, ← f.all-fall.ensures, ← t.total.ensures) c.rule-number.ensures
 
 returns-2 : tie.Need-returns-2
-unfolding planNumber groupsOk
+unfolding plan_number groups_ok
 returns-2 c = rw (sym c.before.known.ensures ∙ c.if1.false)
 
 pub plan-number-spec : {M : Type 1} → statement M

@@ -2,35 +2,35 @@
 use mathlib.Core.Path.{◌≡◌, sym, ◌∙◌}
 use borrow.Author.Rules.{rules}
 use borrow.Author.Tests.{le-leb, lt-leb}
-use Rattle.plan.specs.Plans.{rateOf, valuesOk}
-use Rattle.plan.specs.Rates.{rateOk}
+use Rattle.plan.specs.Plans.{rate_of, values_ok}
+use Rattle.plan.specs.Rates.{rate_ok}
 use Rattle.plan.proofs.groups.values_ok.Statement.{statement}
 use Rattle.plan.proofs.groups.values_ok.Tie as tie
 
 -- the second test is the rate's
-rated : (c : tie.After-known2) → let a = c.before.before.before.before.before.before.args in c.known2.result ≡ rateOk (rateOf a.t1 a.g)
+rated : (c : tie.After-known2) → let a = c.before.before.before.before.before.before.args in c.known2.result ≡ rate_ok (rate_of a.t1 a.g)
 rated c = c.known2.ensures
 
 returns : tie.Need-returns
-unfolding valuesOk
+unfolding values_ok
 returns c =
     let b = c.before.before.before.before in
     rw (sym b.before.known.ensures ∙ b.if1.true, sym (rated c.before.before) ∙ c.before.if2.true, le-leb 1 _ c.if3.true)
 
 returns-2 : tie.Need-returns-2
-unfolding valuesOk
+unfolding values_ok
 returns-2 c =
     let b = c.before.before.before.before in
     rw (sym b.before.known.ensures ∙ b.if1.true, sym (rated c.before.before) ∙ c.before.if2.true, lt-leb 1 _ c.if3.false)
 
 returns-3 : tie.Need-returns-3
-unfolding valuesOk
+unfolding values_ok
 returns-3 c =
     let b = c.before.before.before in
     rw (sym b.before.known.ensures ∙ b.if1.true, sym (rated c.before) ∙ c.if2.false)
 
 returns-4 : tie.Need-returns-4
-unfolding valuesOk
+unfolding values_ok
 returns-4 c = rw (sym c.before.known.ensures ∙ c.if1.false)
 
 pub values-ok-spec : {M : Type 1} → statement M

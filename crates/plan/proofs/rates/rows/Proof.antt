@@ -3,13 +3,13 @@ use mathlib.Core.Path.{sym}
 use native.Mathlib.Omega.{arith}
 use borrow.Author.Rules.{rules}
 use lib.ListN.{get_or-eq_default}
-use Rattle.plan.specs.Rates.{rows_of, rowCounts}
+use Rattle.plan.specs.Rates.{rows_of, row_counts}
 use Rattle.plan.proofs.rates.rows.Statement.{statement}
 use Rattle.plan.proofs.rates.rows.Tie as tie
 
 returns : tie.Need-returns
 unfolding rows_of
-returns c = sym (get_or-eq_default rowCounts 0 {n = c.before.args.rate} (omega arith))
+returns c = sym (get_or-eq_default row_counts 0 {n = c.before.args.rate} (omega arith))
 
 returns-2 : tie.Need-returns-2
 unfolding rows_of

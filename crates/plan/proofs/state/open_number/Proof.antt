@@ -2,22 +2,22 @@
 use mathlib.Core.Path.{sym, ◌∙◌}
 use borrow.Author.Rules.{rules}
 use borrow.Author.Tests.{ne_eqb}
-use Rattle.plan.specs.States.{openNumber}
+use Rattle.plan.specs.States.{open_number}
 use Rattle.plan.proofs.state.open_number.Statement.{statement}
 use Rattle.plan.proofs.state.open_number.Tie as tie
 
 returns : tie.Need-returns
-unfolding openNumber
+unfolding open_number
 returns c = rw (← c.before.plan-number.ensures, ne_eqb _ 0 c.if1.true)
 
 returns-2 : tie.Need-returns-2
-unfolding openNumber
+unfolding open_number
 returns-2 c =
     let b = c.before.before in
     rw (← b.before.plan-number.ensures, b.if1.false, sym c.before.settings-ok.ensures ∙ c.if2.true)
 
 returns-3 : tie.Need-returns-3
-unfolding openNumber
+unfolding open_number
 returns-3 c =
     let b = c.before.before in
     rw (← b.before.plan-number.ensures, b.if1.false, sym c.before.settings-ok.ensures ∙ c.if2.false)

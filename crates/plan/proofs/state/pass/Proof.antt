@@ -3,12 +3,12 @@ use mathlib.Core.Path.{sym, ◌∙◌}
 use borrow.Author.Rules.{rules}
 use borrow.Author.Tests.{eq-eqb, ne_eqb}
 use Rattle.plan.specs.States.{passed}
-use Rattle.plan.specs.StateLaws.{pass-ready}
+use Rattle.plan.specs.StateLaws.{pass_ready}
 use Rattle.plan.proofs.state.pass.Statement.{statement}
 use Rattle.plan.proofs.state.pass.Tie as tie
 
 advanced-requires : tie.Need-advanced-requires
-advanced-requires c κs = (pass-ready _ (sym c.before.pass-number.ensures ∙ c.if1.true)).0.left
+advanced-requires c κs = (pass_ready _ (sym c.before.pass-number.ensures ∙ c.if1.true)).0.left
 
 returns : tie.Need-returns
 unfolding passed

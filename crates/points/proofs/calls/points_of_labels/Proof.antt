@@ -9,7 +9,7 @@ use Rattle.points.proofs.calls.points_of_labels.Tie as tie
 returns : tie.Need-returns
 returns c =
     let n = c.before.points-number in
-    record { in-phase = refused _ _ _ _ n.ensures c.if1.true; quadrature = refused _ _ _ _ n.ensures c.if1.true }
+    record { in_phase = refused _ _ _ _ n.ensures c.if1.true; quadrature = refused _ _ _ _ n.ensures c.if1.true }
 
 put-points-requires : tie.Need-put-points-requires
 put-points-requires c κs =
@@ -21,7 +21,7 @@ returns-2 c =
     let p = c.before.before.before.before in
     let e = p.before.before.before in
     let z = sym e.before.points-number.ensures ∙ e.if1.false in
-    record { in-phase = accepted _ _ _ _ z p.put-points.ensures.0; quadrature = accepted _ _ _ _ z p.put-points.ensures.1 }
+    record { in_phase = accepted _ _ _ _ z p.put-points.ensures.0; quadrature = accepted _ _ _ _ z p.put-points.ensures.1 }
 
 pub points-of-labels-spec : {M : Type 1} → statement M
 points-of-labels-spec = tie.close (tie.spec (λ c κs. search rules) returns put-points-requires (λ c. search rules) (λ c. search rules) returns-2)

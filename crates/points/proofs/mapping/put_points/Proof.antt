@@ -7,11 +7,11 @@ use borrow.Author.Rules.{rules, scaled_Fits}
 use lib.Ieee.{Float, nan}
 use lib.ListN.{length, get_or}
 use Rattle.lists.specs.Filling.{Filling}
-use Rattle.lists.specs.FillingLaws.{filling-none, filling-set, filling-all}
+use Rattle.lists.specs.FillingLaws.{filling_none, filling_set, filling_all}
 use Rattle.points.specs.declared.Point.{Point}
-use Rattle.points.specs.Points.{point_of, inPhaseOf, quadratureOf}
-use Rattle.points.specs.PointLaws.{length-in-phase, length-quadrature, in-phase-at, quadrature-at}
-use Rattle.points.specs.AnswerLaws.{point-answered, refusal-answered}
+use Rattle.points.specs.Points.{point_of, in_phase_of, quadrature_of}
+use Rattle.points.specs.PointLaws.{length_in_phase, length_quadrature, in_phase_at, quadrature_at}
+use Rattle.points.specs.AnswerLaws.{point_answered, refusal_answered}
 use Rattle.points.proofs.mapping.put_points.Statement.{statement}
 use Rattle.points.proofs.mapping.put_points.Tie as tie
 use Rattle.points.proofs.mapping.put_points.Reads as reads
@@ -19,23 +19,23 @@ use Rattle.points.proofs.mapping.put_points.Lts as lts
 
 pub record Putting (is qs i₀ q₀ i q : List Float) (symbol at r : ℕ) : Type 0 where
   pub number : at ≡ symbol + r
-  pub in-phase : Filling is i₀ r i
+  pub in_phase : Filling is i₀ r i
   pub quadrature : Filling qs q₀ r q
 
 abbrev invariant-loop : tie.invariant-loop
-invariant-loop modulation symbol labels in-phase quadrature i₀ q₀ at₀ r₀ i q at r =
-    Putting (inPhaseOf modulation symbol labels in-phase quadrature) (quadratureOf modulation symbol labels in-phase quadrature) i₀ q₀ i q symbol at r
+invariant-loop modulation symbol labels in_phase quadrature i₀ q₀ at₀ r₀ i q at r =
+    Putting (in_phase_of modulation symbol labels in_phase quadrature) (quadrature_of modulation symbol labels in_phase quadrature) i₀ q₀ i q symbol at r
 
 abbrev decreases-loop : tie.decreases-loop
-decreases-loop modulation symbol labels in-phase quadrature i₀ q₀ at₀ r₀ i q at r = length labels - r
+decreases-loop modulation symbol labels in_phase quadrature i₀ q₀ at₀ r₀ i q at r = length labels - r
 
 loop-holds : tie.Need-loop-init invariant-loop decreases-loop
 loop-holds c =
     let s = c.before.before.before.before.before in
     record {
       number = omega arith;
-      in-phase = filling-none _ _ (length-in-phase _ _ _ _ _ ∙ sym s.requires.i-long);
-      quadrature = filling-none _ _ (length-quadrature _ _ _ _ _ ∙ sym s.requires.q-long);
+      in_phase = filling_none _ _ (length_in_phase _ _ _ _ _ ∙ sym s.requires.i_long);
+      quadrature = filling_none _ _ (length_quadrature _ _ _ _ _ ∙ sym s.requires.q_long);
     }
 
 cast : tie.Need-overflow-cast-answer-of invariant-loop decreases-loop
@@ -48,16 +48,16 @@ answer-of-requires c κs =
 
 -- the areas are as long as the labels are many
 long-i : (c : tie.At-loop invariant-loop decreases-loop) → length c.loop.i ≡ length c.before.before.before.before.before.before.args.labels.now
-long-i c = c.loop.invariant.in-phase.same ∙ c.before.before.before.before.before.before.requires.i-long
+long-i c = c.loop.invariant.in_phase.same ∙ c.before.before.before.before.before.before.requires.i_long
 
 long-q : (c : tie.At-loop invariant-loop decreases-loop) → length c.loop.q ≡ length c.before.before.before.before.before.before.args.labels.now
-long-q c = c.loop.invariant.quadrature.same ∙ c.before.before.before.before.before.before.requires.q-long
+long-q c = c.loop.invariant.quadrature.same ∙ c.before.before.before.before.before.before.requires.q_long
 
 mul-i : tie.Need-overflow-mul-i invariant-loop decreases-loop
 mul-i c =
     let l = c.before.before.before.before.before.before in
     let s = l.before.before.before.before.before.before in
-    scaled_Fits l.loop.r (length s.args.i.now) 4 (omega (arith, s.requires.i-long, c.before.before.before.before.before.loop-test.true)) s.well-formed.1.1.1.1.1.0.1
+    scaled_Fits l.loop.r (length s.args.i.now) 4 (omega (arith, s.requires.i_long, c.before.before.before.before.before.loop-test.true)) s.well-formed.1.1.1.1.1.0.1
 
 write-i : tie.Need-slice-write-i invariant-loop decreases-loop
 write-i c = omega (arith, long-i c.before.before.before.before.before.before, c.before.before.before.before.before.loop-test.true)
@@ -66,7 +66,7 @@ mul-q : tie.Need-overflow-mul-q invariant-loop decreases-loop
 mul-q c =
     let l = c.before.before.before.before.before.before in
     let s = l.before.before.before.before.before.before in
-    scaled_Fits l.loop.r (length s.args.q.now) 4 (omega (arith, s.requires.q-long, c.before.before.before.before.before.loop-test.true)) s.well-formed.1.1.1.1.1.1.0.1
+    scaled_Fits l.loop.r (length s.args.q.now) 4 (omega (arith, s.requires.q_long, c.before.before.before.before.before.loop-test.true)) s.well-formed.1.1.1.1.1.1.0.1
 
 write-q : tie.Need-slice-write-q invariant-loop decreases-loop
 write-q c = omega (arith, long-q c.before.before.before.before.before.before, c.before.before.before.before.before.loop-test.true)
@@ -76,14 +76,14 @@ never : tie.After-enum-told invariant-loop decreases-loop → ⊥
 never c =
     let a = c.before.before in
     let l = a.before.before.before in
-    let f = refusal-answered _ _ _ (rw c.enum_told.given.1 at a.answer-of.ensures) in
+    let f = refusal_answered _ _ _ (rw c.enum_told.given.1 at a.answer-of.ensures) in
     f.1 (rw (l.before.before.before.before.before.before.requires.used l.loop.r a.before.before.loop-test.true))
 
 add_at : tie.Need-overflow-add-at invariant-loop decreases-loop
 add_at c =
     let l = c.before.before.before.before.before.before in
     let s = l.before.before.before.before.before.before in
-    omega (arith, l.loop.invariant.number, s.ranges.symbol, s.well-formed.1.1.1.1.1.0.1, s.requires.i-long, c.before.before.before.before.before.loop-test.true)
+    omega (arith, l.loop.invariant.number, s.ranges.symbol, s.well-formed.1.1.1.1.1.0.1, s.requires.i_long, c.before.before.before.before.before.loop-test.true)
 
 again : tie.Need-loop-preserved invariant-loop decreases-loop
 again c =
@@ -93,33 +93,33 @@ again c =
     let m = s.args.modulation in
     let symbol = s.args.symbol in
     let labels = s.args.labels.now in
-    let ins = s.args.in-phase.now in
+    let ins = s.args.in_phase.now in
     let quads = s.args.quadrature.now in
     let r = l.loop.r in
     let h = a.before.before.loop-test.true in
     let v = l.loop.invariant in
     let p = c.before.answer.given.0.0 in
     let e : p ≡ point_of m (symbol + r) ins quads (get_or labels r 0)
-    = (point-answered _ _ p (rw c.before.answer.given.1 at a.answer-of.ensures)).1 ∙ ap (λ (n : ℕ). point_of m n ins quads (get_or labels r 0)) v.number in
+    = (point_answered _ _ p (rw c.before.answer.given.1 at a.answer-of.ensures)).1 ∙ ap (λ (n : ℕ). point_of m n ins quads (get_or labels r 0)) v.number in
     record {
       number = omega arith;
-      in-phase =
-          filling-set _ _ r _ v.in-phase nan _ (omega (arith, s.requires.i-long))
-          (ap (λ (p : Point). p.i) e ∙ sym (in-phase-at m symbol labels ins quads r h));
+      in_phase =
+          filling_set _ _ r _ v.in_phase nan _ (omega (arith, s.requires.i_long))
+          (ap (λ (p : Point). p.i) e ∙ sym (in_phase_at m symbol labels ins quads r h));
       quadrature =
-          filling-set _ _ r _ v.quadrature nan _ (omega (arith, s.requires.q-long))
-          (ap (λ (p : Point). p.q) e ∙ sym (quadrature-at m symbol labels ins quads r h));
+          filling_set _ _ r _ v.quadrature nan _ (omega (arith, s.requires.q_long))
+          (ap (λ (p : Point). p.q) e ∙ sym (quadrature_at m symbol labels ins quads r h));
     }
 
 returns-2 : tie.Need-returns-2 invariant-loop decreases-loop
 returns-2 c =
     let v = c.before.loop.invariant in
     let s = c.before.before.before.before.before.before.before in
-    (filling-all _ _ _ _ v.in-phase (omega (arith, s.requires.i-long, c.loop-test.false)), filling-all _ _ _ _ v.quadrature (omega (arith, s.requires.q-long, c.loop-test.false)))
+    (filling_all _ _ _ _ v.in_phase (omega (arith, s.requires.i_long, c.loop-test.false)), filling_all _ _ _ _ v.quadrature (omega (arith, s.requires.q_long, c.loop-test.false)))
 
 pub put-points-spec : {M : Type 1} → statement M
 put-points-spec =
     tie.close
     (tie.spec invariant-loop decreases-loop loop-holds (λ c. search rules) cast answer-of-requires (λ c. search rules) mul-i write-i mul-q write-q
     (λ c. search rules) (λ c. absurd (never c)) (λ c. absurd (never c)) (λ c. absurd (never c)) add_at (λ c. omega arith) (λ c. omega arith)
-    again (λ c. c.before.loop.invariant.in-phase.same) (λ c. c.before.loop.invariant.quadrature.same) returns-2)
+    again (λ c. c.before.loop.invariant.in_phase.same) (λ c. c.before.loop.invariant.quadrature.same) returns-2)

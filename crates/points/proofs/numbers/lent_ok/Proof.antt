@@ -4,7 +4,7 @@ use Prim.Native.Nat.{◌*◌, ◌%◌, ◌^◌}
 use borrow.Author.Rules.{rules}
 use borrow.Author.Tests.{eq-eqb, ne_eqb}
 use Rattle.symbols.specs.LabelLaws.{one_shifted}
-use Rattle.points.specs.Numbers.{lentOk}
+use Rattle.points.specs.Numbers.{lent_ok}
 use Rattle.points.proofs.numbers.lent_ok.Statement.{statement}
 use Rattle.points.proofs.numbers.lent_ok.Tie as tie
 
@@ -13,17 +13,17 @@ entries : (c : tie.Start) → 1 * 2 ^ c.args.modulation % 2 ^ 64 ≡ 2 ^ c.args.
 entries c = one_shifted c.args.modulation c.requires
 
 returns : tie.Need-returns
-unfolding lentOk
+unfolding lent_ok
 returns c = rw (ne_eqb _ _ (λ e. c.if1.true (e ∙ sym (entries c.before))))
 
 returns-2 : tie.Need-returns-2
-unfolding lentOk
+unfolding lent_ok
 returns-2 c =
     let i = c.before.before in
     rw (eq-eqb _ _ (c.before.if1.false ∙ entries i), ne_eqb _ _ (λ e. c.if2.true (e ∙ sym (entries i))))
 
 returns-3 : tie.Need-returns-3
-unfolding lentOk
+unfolding lent_ok
 returns-3 c =
     let i = c.before.before.before in
     c.symbol-ok.ensures ∙ rw (eq-eqb _ _ (c.before.before.if1.false ∙ entries i), eq-eqb _ _ (c.before.if2.false ∙ entries i))

@@ -5,28 +5,28 @@ use borrow.Author.Rules.{rules}
 use borrow.Author.Tests.{leb-true}
 use lib.Dec.{leb}
 use lib.ListN.{length}
-use Rattle.lists.specs.ChoiceLaws.{and_right, then-first, then_next}
-use Rattle.symbols.specs.Labels.{labelNumber}
-use Rattle.symbols.specs.CallLaws.{labels-fit}
+use Rattle.lists.specs.ChoiceLaws.{and_right, then_first, then_next}
+use Rattle.symbols.specs.Labels.{label_number}
+use Rattle.symbols.specs.CallLaws.{labels_fit}
 use Rattle.points.specs.Needs.{AllListed}
-use Rattle.points.specs.Numbers.{lentOk, lentNumber, roomOk, usedNumber, pointsNumber}
-use Rattle.points.specs.NumberLaws.{Lent, lent, listed, all-finite}
+use Rattle.points.specs.Numbers.{lent_ok, lent_number, room_ok, used_number, points_number}
+use Rattle.points.specs.NumberLaws.{Lent, lent, listed, all_finite}
 use Rattle.points.proofs.numbers.points_number.Statement.{statement}
 use Rattle.points.proofs.numbers.points_number.Tie as tie
 
 -- the number of what is lent, with the room
 first : (c : tie.After-lent-number) → let s = c.before.before.before.before.before.args in
-    c.lent-number.result ≡ lentNumber s.modulation true (lentOk s.modulation s.symbol (length s.in-phase.now) (length s.quadrature.now) && roomOk (length s.labels.now) s.i s.q)
+    c.lent-number.result ≡ lent_number s.modulation true (lent_ok s.modulation s.symbol (length s.in_phase.now) (length s.quadrature.now) && room_ok (length s.labels.now) s.i s.q)
 first c = c.lent-number.ensures ∙ rw c.before.room-ok.ensures
 
 -- where it is 0
 sound : (c : tie.Else1) → let s = c.before.before.before.before.before.before.args in
-    Lent s.modulation s.symbol (length s.in-phase.now) (length s.quadrature.now) (roomOk (length s.labels.now) s.i s.q)
+    Lent s.modulation s.symbol (length s.in_phase.now) (length s.quadrature.now) (room_ok (length s.labels.now) s.i s.q)
 sound c = lent _ _ _ _ _ _ (sym (first c.before) ∙ c.if1.false)
 
 returns : tie.Need-returns
-unfolding pointsNumber
-returns c = let e = first c.before in e ∙ sym (then-first _ _ (λ z. c.if1.true (e ∙ z)))
+unfolding points_number
+returns c = let e = first c.before in e ∙ sym (then_first _ _ (λ z. c.if1.true (e ∙ z)))
 
 label-number-requires : tie.Need-label-number-requires
 label-number-requires c κs =
@@ -34,39 +34,39 @@ label-number-requires c κs =
     leb-true m 5 (and_right (leb 1 m) _ (sound c).known)
 
 -- the labels' number
-second : (c : tie.After-label-number) → let s = c.before.before.before.before.before.before.before.args in c.label-number.result ≡ labelNumber s.modulation s.labels.now
+second : (c : tie.After-label-number) → let s = c.before.before.before.before.before.before.before.args in c.label-number.result ≡ label_number s.modulation s.labels.now
 second c = c.label-number.ensures
 
 returns-2 : tie.Need-returns-2
-unfolding pointsNumber
+unfolding points_number
 returns-2 c =
     let l = c.before in
     let n = l.before in
     let e = second l in
-    e ∙ sym (then_next _ _ (sym (first n.before) ∙ n.if1.false) ∙ then-first _ _ (λ z. c.if2.true (e ∙ z)))
+    e ∙ sym (then_next _ _ (sym (first n.before) ∙ n.if1.false) ∙ then_first _ _ (λ z. c.if2.true (e ∙ z)))
 
 -- each label has its entries
-listed-all : (c : tie.Else2) → let s = c.before.before.before.before.before.before.before.before.args in AllListed s.in-phase.now s.quadrature.now s.labels.now
+listed-all : (c : tie.Else2) → let s = c.before.before.before.before.before.before.before.before.args in AllListed s.in_phase.now s.quadrature.now s.labels.now
 listed-all c r h =
     let l = c.before in
-    listed (sound l.before) _ (labels-fit _ _ (sym (second l) ∙ c.if2.false) r h)
+    listed (sound l.before) _ (labels_fit _ _ (sym (second l) ∙ c.if2.false) r h)
 
 -- the number is that of the entries used
 third : (c : tie.Else2) → let s = c.before.before.before.before.before.before.before.before.args in
-    pointsNumber s.modulation s.symbol s.labels.now s.in-phase.now s.quadrature.now s.i s.q ≡ usedNumber s.labels.now s.in-phase.now s.quadrature.now
-unfolding pointsNumber
+    points_number s.modulation s.symbol s.labels.now s.in_phase.now s.quadrature.now s.i s.q ≡ used_number s.labels.now s.in_phase.now s.quadrature.now
+unfolding points_number
 third c =
     let l = c.before in
     let n = l.before in
     then_next _ _ (sym (first n.before) ∙ n.if1.false) ∙ then_next _ _ (sym (second l) ∙ c.if2.false)
 
 entries-ok-requires : tie.Need-entries-ok-requires
-entries-ok-requires c κs = let l = sound c.before.before in l.in-phase ∙ sym l.quadrature
+entries-ok-requires c κs = let l = sound c.before.before in l.in_phase ∙ sym l.quadrature
 
 returns-3 : tie.Need-returns-3
 returns-3 c =
     let e = c.before in
-    sym (third e.before ∙ all-finite _ _ _ (listed-all e.before) (sym e.entries-ok.ensures ∙ c.if3.true))
+    sym (third e.before ∙ all_finite _ _ _ (listed-all e.before) (sym e.entries-ok.ensures ∙ c.if3.true))
 
 returns-4 : tie.Need-returns-4
 returns-4 c = c.used-number.ensures ∙ sym (third c.before.before.before)

@@ -5,10 +5,10 @@ use Prim.Native.Nat.{◌-◌}
 use native.Mathlib.Omega.{arith}
 use borrow.Author.Rules.{rules}
 use borrow.Author.Tests.{not-true, not-false}
-use Rattle.plan.specs.Rates.{rateOk}
+use Rattle.plan.specs.Rates.{rate_ok}
 use Rattle.plan.specs.RateLaws.{Between, between}
 use Rattle.published.specs.Published.{table_of}
-use Rattle.published.specs.PublishedLaws.{number-unknown, number-long, number-good}
+use Rattle.published.specs.PublishedLaws.{number_unknown, number_long, number_good}
 use Rattle.refusal.specs.AnswerLaws.{refused, accepted}
 use Rattle.published.proofs.Starts.{Placed, placed}
 use Rattle.published.proofs.copies.copy_from.Statement.{statement}
@@ -17,10 +17,10 @@ use Rattle.published.proofs.copies.copy_from.Tie as tie
 returns : tie.Need-returns
 returns c =
     let a = c.before.before.before.before.args in
-    refused _ (table_of a.rate) a.area.now 1 (sym (number-unknown a.rate a.area.now (sym c.before.known.ensures ∙ not-true _ c.if1.true))) (λ e. omega arith)
+    refused _ (table_of a.rate) a.area.now 1 (sym (number_unknown a.rate a.area.now (sym c.before.known.ensures ∙ not-true _ c.if1.true))) (λ e. omega arith)
 
 -- the rate is known
-known : (c : tie.Else1) → rateOk c.before.before.before.before.args.rate ≡ true
+known : (c : tie.Else1) → rate_ok c.before.before.before.before.args.rate ≡ true
 known c = sym c.before.known.ensures ∙ not-false _ c.if1.false
 
 bounds : (c : tie.Else1) → Between 1 11 c.before.before.before.before.args.rate
@@ -42,7 +42,7 @@ returns-2 c =
     let p = place c.before in
     let k = known c.before.before.before in
     refused _ (table_of a.rate) a.area.now 4
-    (sym (number-long a.rate a.area.now k (λ e. c.if2.true (e ∙ sym p.long))))
+    (sym (number_long a.rate a.area.now k (λ e. c.if2.true (e ∙ sym p.long))))
     (λ e. omega arith)
 
 copy-requires : tie.Need-copy-requires
@@ -57,7 +57,7 @@ returns-3 c =
     let p = place e.before in
     let k = known e.before.before.before in
     accepted _ (table_of a.rate) a.area.now _
-    (number-good a.rate a.area.now k (e.if2.false ∙ p.long))
+    (number_good a.rate a.area.now k (e.if2.false ∙ p.long))
     (c.before.before.copy.ensures ∙ p.there)
 
 pub copy-from-spec : {M : Type 1} → statement M

@@ -4,13 +4,13 @@ use borrow.Author.Rules.{rules}
 use Rattle.lists.specs.Count.{sum, table}
 use Rattle.published.specs.Printed.{rate1, rate2, rate3, rate4, rate5, rate6, rate7, rate8, rate9, rate10, rate11}
 use Rattle.published.specs.Published.{printed, form, nth, table_at}
-use Rattle.published.proofs.Starts.{start-at}
+use Rattle.published.proofs.Starts.{start_at}
 use Rattle.published.proofs.copies.start.Statement.{statement}
 use Rattle.published.proofs.copies.start.Tie as tie
 
 returns : tie.Need-returns
 unfolding sum table table_at form nth printed rate1 rate2 rate3 rate4 rate5 rate6 rate7 rate8 rate9 rate10 rate11
-returns c = start-at _ refl c.args.k (search rules)
+returns c = start_at _ refl c.args.k (search rules)
 
 pub start_spec : {M : Type 1} → statement M
 start_spec = tie.close (tie.spec (λ c. search rules) (λ c. search rules) returns)

@@ -7,7 +7,7 @@ use lib.ListN.{length}
 use Rattle.lists.specs.CountLaws.{sum_more}
 use Rattle.plan.specs.RateLaws.{Between, between}
 use Rattle.published.specs.Published.{table_at, table_of, length_of}
-use Rattle.published.specs.PublishedLaws.{table-short}
+use Rattle.published.specs.PublishedLaws.{table_short}
 use Rattle.published.proofs.copies.table_length.Statement.{statement}
 use Rattle.published.proofs.copies.table_length.Tie as tie
 
@@ -29,7 +29,7 @@ returns c =
     let k = known t in
     let rate = t.before.before.args.rate in
     let e : c.start2.result - c.before.start.result ≡ length (table_of rate) = omega (arith, reaches c) in
-    (rw (← t.before.known.ensures, t.if1.true) e, omega (arith, e, table-short rate k.low k.high))
+    (rw (← t.before.known.ensures, t.if1.true) e, omega (arith, e, table_short rate k.low k.high))
 
 returns-2 : tie.Need-returns-2
 unfolding length_of

@@ -3,9 +3,9 @@ use mathlib.Core.Path.{◌∙◌}
 use native.Mathlib.Omega.{arith}
 use borrow.Author.Rules.{rules}
 use Rattle.setting_block.specs.Layout.{layout, edition}
-use Rattle.setting_block.specs.Blocks.{fieldIn, planIn}
-use Rattle.setting_block.specs.BlockLaws.{field-number}
-use Rattle.octet_numbers.specs.NumberLaws.{number-below}
+use Rattle.setting_block.specs.Blocks.{field_in, plan_in}
+use Rattle.setting_block.specs.BlockLaws.{field_number}
+use Rattle.octet_numbers.specs.NumberLaws.{number_below}
 use Rattle.setting_block.proofs.blocks.plan_in.Statement.{statement}
 use Rattle.setting_block.proofs.blocks.plan_in.Tie as tie
 
@@ -13,14 +13,14 @@ cast-count : tie.Need-overflow-cast-count
 cast-count c =
     let s = c.before.before.before in
     let b = s.args.block.now in
-    omega (arith, c.number_of_lem.ensures, field-number b s.requires (layout edition).count (omega arith), number-below 1 (fieldIn (layout edition).count b))
+    omega (arith, c.number_of_lem.ensures, field_number b s.requires (layout edition).count (omega arith), number_below 1 (field_in (layout edition).count b))
 
 returns : tie.Need-returns
-unfolding planIn
+unfolding plan_in
 returns c =
     let s = c.before.before.before.before.before in
     let n = c.before.before.number_of_lem in
-    c.of-octets.ensures ∙ rw (n.ensures ∙ field-number s.args.block.now s.requires (layout edition).count (omega arith))
+    c.of-octets.ensures ∙ rw (n.ensures ∙ field_number s.args.block.now s.requires (layout edition).count (omega arith))
 
 pub plan-in-spec : {M : Type 1} → statement M
 plan-in-spec =

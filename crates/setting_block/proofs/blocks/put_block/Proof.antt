@@ -7,12 +7,12 @@ use lib.ListN.{length}
 use lib.Seq.{take_at}
 use borrow.Author.Rules.{rules}
 use borrow.Rule.Slice.PartMut.{put_mid}
-use Rattle.lists.specs.PartLaws.{length_part, two-parts}
+use Rattle.lists.specs.PartLaws.{length_part, two_parts}
 use Rattle.setting_block.specs.Layout.{edition}
-use Rattle.octet_numbers.specs.Numbers.{bigEndian, sumOf}
-use Rattle.octet_numbers.specs.NumberLaws.{length-bigEndian}
+use Rattle.octet_numbers.specs.Numbers.{big_endian, sum_of}
+use Rattle.octet_numbers.specs.NumberLaws.{length_big_endian}
 use Rattle.setting_block.specs.Blocks.{body, block_of}
-use Rattle.setting_block.specs.BlockLaws.{length-body}
+use Rattle.setting_block.specs.BlockLaws.{length_body}
 use Rattle.setting_block.proofs.blocks.put_block.Statement.{statement}
 use Rattle.setting_block.proofs.blocks.put_block.Tie as tie
 
@@ -24,12 +24,12 @@ returns c =
     let x = c.before.before.before.before.before.before.before.before.before.put-body in
     let q = c.before.before.before.before.sum_of in
     let y = c.before.before.put-number in
-    let m : length x.new.1.1.0 ≡ 510 = ap length x.ensures ∙ length-body edition a.plan a.registers in
-    let t : q.result ≡ sumOf (body edition a.plan a.registers)
-    = q.ensures ∙ ap sumOf (take_at x.new.1.1.0 _ 510 m ∙ x.ensures) in
-    let j : y.new.1.0 ≡ bigEndian 2 (sumOf (body edition a.plan a.registers))
-    = y.ensures ∙ ap₂ bigEndian (length_part 510 512 (put_mid 0 510 a.block.now x.new.1.1.0) (search rules)) t in
-    two-parts a.block.now x.new.1.1.0 y.new.1.0 510 512 s.requires.long (omega arith) m (ap length j ∙ length-bigEndian 2 _)
+    let m : length x.new.1.1.0 ≡ 510 = ap length x.ensures ∙ length_body edition a.plan a.registers in
+    let t : q.result ≡ sum_of (body edition a.plan a.registers)
+    = q.ensures ∙ ap sum_of (take_at x.new.1.1.0 _ 510 m ∙ x.ensures) in
+    let j : y.new.1.0 ≡ big_endian 2 (sum_of (body edition a.plan a.registers))
+    = y.ensures ∙ ap₂ big_endian (length_part 510 512 (put_mid 0 510 a.block.now x.new.1.1.0) (search rules)) t in
+    two_parts a.block.now x.new.1.1.0 y.new.1.0 510 512 s.requires.long (omega arith) m (ap length j ∙ length_big_endian 2 _)
     ∙ ap₂ (λ (u v : List ℕ). u ++ v) x.ensures j
 
 pub put-block-spec : {M : Type 1} → statement M

@@ -6,11 +6,11 @@ use native.Mathlib.Omega.{arith}
 use lib.ListN.{length}
 use borrow.Author.Rules.{rules}
 use borrow.Rule.Slice.PartMut.{put_mid}
-use Rattle.lists.specs.PartLaws.{length_part, three-parts}
+use Rattle.lists.specs.PartLaws.{length_part, three_parts}
 use Rattle.setting_block.specs.Layout.{mark, edition}
-use Rattle.octet_numbers.specs.Numbers.{bigEndian}
-use Rattle.octet_numbers.specs.NumberLaws.{length-bigEndian}
-use Rattle.setting_block.specs.BlockLaws.{length-plan}
+use Rattle.octet_numbers.specs.Numbers.{big_endian}
+use Rattle.octet_numbers.specs.NumberLaws.{length_big_endian}
+use Rattle.setting_block.specs.BlockLaws.{length_plan}
 use Rattle.setting_block.proofs.blocks.put_head.Statement.{statement}
 use Rattle.setting_block.proofs.blocks.put_head.Tie as tie
 
@@ -22,10 +22,10 @@ returns c =
     let y = c.before.before.before.before.before.before.put-number in
     let z = c.before.before.put-plan in
     let i : x.new.1.0 ≡ mark = x.ensures in
-    let j : y.new.1.0 ≡ bigEndian 1 edition
-    = y.ensures ∙ ap (λ (n : ℕ). bigEndian n edition) (length_part 4 5 (put_mid 0 4 a.octets.now x.new.1.0) (search rules)) in
-    three-parts a.octets.now x.new.1.0 y.new.1.0 z.new.1.0 4 5 30 s.requires.long (omega arith) (omega arith)
-    (ap length i) (ap length j ∙ length-bigEndian 1 edition) (ap length z.ensures ∙ length-plan edition a.plan)
+    let j : y.new.1.0 ≡ big_endian 1 edition
+    = y.ensures ∙ ap (λ (n : ℕ). big_endian n edition) (length_part 4 5 (put_mid 0 4 a.octets.now x.new.1.0) (search rules)) in
+    three_parts a.octets.now x.new.1.0 y.new.1.0 z.new.1.0 4 5 30 s.requires.long (omega arith) (omega arith)
+    (ap length i) (ap length j ∙ length_big_endian 1 edition) (ap length z.ensures ∙ length_plan edition a.plan)
     ∙ ap₂ (λ (p q : List ℕ). p ++ q) i (ap₂ (λ (p q : List ℕ). p ++ q) j z.ensures)
 
 pub put-head-spec : {M : Type 1} → statement M

@@ -5,10 +5,10 @@ use Prim.Native.Nat.{ℕ}
 use native.Mathlib.Omega.{arith}
 use lib.ListN.{length}
 use borrow.Author.Rules.{rules}
-use Rattle.lists.specs.PartLaws.{length_part, two-parts}
-use Rattle.plan_octets.specs.GroupLaws.{length-groupsOf}
-use Rattle.octet_numbers.specs.Numbers.{bigEndian}
-use Rattle.octet_numbers.specs.NumberLaws.{length-bigEndian}
+use Rattle.lists.specs.PartLaws.{length_part, two_parts}
+use Rattle.plan_octets.specs.GroupLaws.{length_groups_of}
+use Rattle.octet_numbers.specs.Numbers.{big_endian}
+use Rattle.octet_numbers.specs.NumberLaws.{length_big_endian}
 use Rattle.setting_block.proofs.blocks.put_plan.Statement.{statement}
 use Rattle.setting_block.proofs.blocks.put_plan.Tie as tie
 
@@ -18,8 +18,8 @@ returns c =
     let a = s.args in
     let x = c.before.before.before.before.before.before.put-number in
     let y = c.before.before.put-groups in
-    let i : x.new.1.0 ≡ bigEndian 1 a.plan.count = x.ensures ∙ ap (λ (n : ℕ). bigEndian n a.plan.count) (length_part 0 1 a.octets.now (search rules)) in
-    two-parts a.octets.now x.new.1.0 y.new.1.0 1 25 s.requires.long (omega arith) (ap length i ∙ length-bigEndian 1 _) (ap length y.ensures ∙ length-groupsOf a.plan)
+    let i : x.new.1.0 ≡ big_endian 1 a.plan.count = x.ensures ∙ ap (λ (n : ℕ). big_endian n a.plan.count) (length_part 0 1 a.octets.now (search rules)) in
+    two_parts a.octets.now x.new.1.0 y.new.1.0 1 25 s.requires.long (omega arith) (ap length i ∙ length_big_endian 1 _) (ap length y.ensures ∙ length_groups_of a.plan)
     ∙ ap₂ (λ (p q : List ℕ). p ++ q) i y.ensures
 
 pub put-plan-spec : {M : Type 1} → statement M

@@ -5,14 +5,14 @@ use Prim.Native.Nat.{ℕ}
 use native.Mathlib.Omega.{arith}
 use lib.ListN.{length, length-append}
 use borrow.Author.Rules.{rules}
-use Rattle.lists.specs.PartLaws.{two-parts}
-use Rattle.octet_numbers.specs.Numbers.{bigEndian}
-use Rattle.octet_numbers.specs.NumberLaws.{length-bigEndian}
+use Rattle.lists.specs.PartLaws.{two_parts}
+use Rattle.octet_numbers.specs.Numbers.{big_endian}
+use Rattle.octet_numbers.specs.NumberLaws.{length_big_endian}
 use Rattle.setting_block.proofs.blocks.put_registers.Statement.{statement}
 use Rattle.setting_block.proofs.blocks.put_registers.Tie as tie
 
-eight : (m s : ℕ) → length (bigEndian 4 m ++ bigEndian 4 s) ≡ 8
-eight m s = length-append (bigEndian 4 m) (bigEndian 4 s) ∙ omega (arith, length-bigEndian 4 m, length-bigEndian 4 s)
+eight : (m s : ℕ) → length (big_endian 4 m ++ big_endian 4 s) ≡ 8
+eight m s = length-append (big_endian 4 m) (big_endian 4 s) ∙ omega (arith, length_big_endian 4 m, length_big_endian 4 s)
 
 returns : tie.Need-returns
 returns c =
@@ -20,9 +20,9 @@ returns c =
     let g = s.args.registers in
     let x = c.before.before.before.before.before.before.put-register in
     let y = c.before.before.put-register2 in
-    two-parts s.args.octets.now x.new.1.0 y.new.1.0 8 16 s.requires (omega arith) (ap length x.ensures ∙ eight _ _) (ap length y.ensures ∙ eight _ _)
+    two_parts s.args.octets.now x.new.1.0 y.new.1.0 8 16 s.requires (omega arith) (ap length x.ensures ∙ eight _ _) (ap length y.ensures ∙ eight _ _)
     ∙ ap₂ (λ (p q : List ℕ). p ++ q) x.ensures y.ensures
-    ∙ append_assoc (bigEndian 4 g.slots.mask) (bigEndian 4 g.slots.start) (bigEndian 4 g.tmcc.mask ++ bigEndian 4 g.tmcc.start)
+    ∙ append_assoc (big_endian 4 g.slots.mask) (big_endian 4 g.slots.start) (big_endian 4 g.tmcc.mask ++ big_endian 4 g.tmcc.start)
 
 pub put-registers-spec : {M : Type 1} → statement M
 put-registers-spec =

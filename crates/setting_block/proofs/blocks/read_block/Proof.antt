@@ -3,18 +3,18 @@ use mathlib.Core.Path.{◌≡◌, sym, ap₂, ◌∙◌}
 use borrow.Author.Rules.{rules}
 use borrow.Author.Tests.{eq-eqb, ne_eqb}
 use Rattle.setting_block.specs.Layout.{edition}
-use Rattle.setting_block.specs.Blocks.{settingNumber, blockNumber}
+use Rattle.setting_block.specs.Blocks.{setting_number, block_number}
 use Rattle.setting_block.proofs.blocks.read_block.Statement.{statement}
 use Rattle.setting_block.proofs.blocks.read_block.Tie as tie
 
 -- the number that was found behind the block's own tests
 found : (c : tie.After-setting-number) → let b = c.before.before.before.before.before.before.args.block.now in
-    c.setting-number.result ≡ blockNumber edition b
-unfolding blockNumber
+    c.setting-number.result ≡ block_number edition b
+unfolding block_number
 found c =
     let t = c.before.before.before in
     c.setting-number.ensures
-    ∙ ap₂ settingNumber c.before.before.plan-in.ensures c.before.registers-in.ensures
+    ∙ ap₂ setting_number c.before.before.plan-in.ensures c.before.registers-in.ensures
     ∙ rw (sym t.before.block-ok.ensures ∙ t.if1.true)
 
 returns : tie.Need-returns
@@ -28,7 +28,7 @@ returns-2 c =
     rw (← found d, eq-eqb _ 0 c.if2.false, d.before.before.plan-in.ensures, d.before.registers-in.ensures)
 
 returns-3 : tie.Need-returns-3
-unfolding blockNumber
+unfolding block_number
 returns-3 c = c.no-settings2.ensures ∙ rw (sym c.before.before.block-ok.ensures ∙ c.before.if1.false)
 
 pub read-block-spec : {M : Type 1} → statement M

@@ -2,12 +2,12 @@
 use mathlib.Core.Path.{ap₂, ◌∙◌}
 use borrow.Author.Rules.{rules}
 use Rattle.lists.specs.Choice.{and_then}
-use Rattle.setting_block.specs.Blocks.{settingNumber}
+use Rattle.setting_block.specs.Blocks.{setting_number}
 use Rattle.setting_block.proofs.blocks.setting_number.Statement.{statement}
 use Rattle.setting_block.proofs.blocks.setting_number.Tie as tie
 
 returns : tie.Need-returns
-unfolding settingNumber
+unfolding setting_number
 returns c = c.first-refusal.ensures ∙ ap₂ and_then c.before.before.plan-number.ensures c.before.registers-number.ensures
 
 pub setting-number-spec : {M : Type 1} → statement M

@@ -2,13 +2,13 @@
 use mathlib.Core.Path.{ap, ◌∙◌}
 use borrow.Author.Rules.{rules}
 use Rattle.plan.specs.Rates.{rows_of}
-use Rattle.plan.specs.Places.{placeOf}
+use Rattle.plan.specs.Places.{place_of}
 use Rattle.slot.specs.Calls.{rows_at}
 use Rattle.slot.proofs.calls.rows_at.Statement.{statement}
 use Rattle.slot.proofs.calls.rows_at.Tie as tie
 
 returns : tie.Need-returns
-unfolding rows_at placeOf
+unfolding rows_at place_of
 returns c = c.rows.ensures ∙ ap (λ p. rows_of p.rate) c.before.next_place.ensures
 
 pub rows-at-spec : {M : Type 1} → statement M

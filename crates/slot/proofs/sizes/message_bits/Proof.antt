@@ -1,12 +1,12 @@
 -- `slot::message_bits`: as the definition.
 use mathlib.Core.Path.{refl}
 use borrow.Author.Rules.{rules}
-use Rattle.slot.specs.Slots.{messageBits}
+use Rattle.slot.specs.Slots.{message_bits}
 use Rattle.slot.proofs.sizes.message_bits.Statement.{statement}
 use Rattle.slot.proofs.sizes.message_bits.Tie as tie
 
 returns : tie.Need-returns
-unfolding messageBits
+unfolding message_bits
 returns c = refl
 
 pub message-bits-spec : {M : Type 1} → statement M

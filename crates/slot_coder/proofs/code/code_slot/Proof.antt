@@ -4,17 +4,17 @@ use Prim.Native.Nat.{ℕ}
 use borrow.Author.Rules.{rules}
 use borrow.Author.Tests.{eq-eqb, ne_eqb}
 use lib.ListN.{length-replicate}
-use Rattle.lists.specs.ChoiceLaws.{then-zero}
-use Rattle.dispersal.specs.RegisterLaws.{register-is}
-use Rattle.plan.specs.States.{movedOn, stateNumber}
-use Rattle.slot.specs.Slots.{slot_of, registerAfter}
-use Rattle.slot.specs.Calls.{rows_at, dataNumber, slotNumber, codeAnswer, codeArea}
-use Rattle.slot.specs.CallLaws.{Accepted-slot, accepted-slot}
+use Rattle.lists.specs.ChoiceLaws.{then_zero}
+use Rattle.dispersal.specs.RegisterLaws.{register_is}
+use Rattle.plan.specs.States.{moved_on, state_number}
+use Rattle.slot.specs.Slots.{slot_of, register_after}
+use Rattle.slot.specs.Calls.{rows_at, data_number, slot_number, code_answer, code_area}
+use Rattle.slot.specs.CallLaws.{Accepted-slot, accepted_slot}
 use Rattle.slot_coder.proofs.code.code_slot.Statement.{statement}
 use Rattle.slot_coder.proofs.code.code_slot.Tie as tie
 
 returns : tie.Need-returns
-unfolding codeAnswer codeArea
+unfolding code_answer code_area
 returns c =
     let n = c.before.slot-number.ensures in
     let e = ne_eqb _ 0 c.if1.true in
@@ -22,44 +22,44 @@ returns c =
 
 -- what a number 0 says
 good : (c : tie.Else1) → let a = c.before.before.before.before.before.before.args in Accepted-slot a.state a.table.now a.source.now a.coded.now
-good c = accepted-slot _ _ _ _ (sym c.before.slot-number.ensures ∙ c.if1.false)
+good c = accepted_slot _ _ _ _ (sym c.before.slot-number.ensures ∙ c.if1.false)
 
 rows-at-requires : tie.Need-rows-at-requires
-unfolding slotNumber dataNumber
+unfolding slot_number data_number
 rows-at-requires c κs =
     let a = c.before.before.before.before.before.before.args in
-    (then-zero (stateNumber a.state) _ (then-zero (dataNumber a.state) _ (sym c.before.slot-number.ensures ∙ c.if1.false)).0).0
+    (then_zero (state_number a.state) _ (then_zero (data_number a.state) _ (sym c.before.slot-number.ensures ∙ c.if1.false)).0).0
 
 put-slot-requires : tie.Need-put-slot-requires
 put-slot-requires c κs =
     let r = c.before.before.before in
     let g = good r.before in
-    let e = r.rows-at.ensures in
+    let e = r.rows_at_law.ensures in
     record {
       rows = rw e g.place.rows;
-      held = (register-is 25 _ g.place.ready.sound.register).high;
+      held = (register_is 25 _ g.place.ready.sound.register).high;
       table = rw e g.areas.table;
-      source-long = rw e g.areas.source-long;
-      bits-long = length-replicate {A = ℕ} 44880 0;
-      input-long = length-replicate {A = ℕ} 44880 0;
-      coded-long = g.areas.coded-long;
+      source_long = rw e g.areas.source_long;
+      bits_long = length-replicate {A = ℕ} 44880 0;
+      input_long = length-replicate {A = ℕ} 44880 0;
+      coded_long = g.areas.coded_long;
     }
 
 advanced-requires : tie.Need-advanced-requires
 advanced-requires c κs = (good c.before.before.before.before.before.before.before.before.before).place.ready.left
 
 returns-2 : tie.Need-returns-2
-unfolding codeAnswer codeArea
+unfolding code_answer code_area
 returns-2 c =
     let p = c.before.before.before.before.before in
     let r = p.before.before.before.before in
     let n = r.before.before.slot-number.ensures in
     let z = eq-eqb _ 0 r.before.if1.false in
     let a = r.before.before.before.before.before.before.before.args in
-    let e = r.rows-at.ensures in
-    let k : p.put-slot.result ≡ registerAfter (rows_at a.state) a.state.mask a.state.register
-    = p.put-slot.ensures.0 ∙ ap (λ (m : ℕ). registerAfter m a.state.mask a.state.register) e in
-    let on : c.advanced.result ≡ movedOn a.state p.put-slot.result = c.advanced.ensures in (
+    let e = r.rows_at_law.ensures in
+    let k : p.put-slot.result ≡ register_after (rows_at a.state) a.state.mask a.state.register
+    = p.put-slot.ensures.0 ∙ ap (λ (m : ℕ). register_after m a.state.mask a.state.register) e in
+    let on : c.advanced.result ≡ moved_on a.state p.put-slot.result = c.advanced.ensures in (
       rw (← n, z, on, k),
       rw (← n, z) (p.put-slot.ensures.1 ∙ ap (λ (m : ℕ). slot_of m a.table.now a.state.mask a.state.register a.source.now) e),
     )

@@ -6,11 +6,11 @@ use native.Mathlib.Omega.{arith}
 use borrow.Author.Rules.{rules}
 use lib.ListN.{length, take, drop, replicate}
 use borrow.Rule.Slice.PartMut.{put_mid, same_len_mid}
-use Rattle.lists.specs.PartLaws.{length_part, three-parts}
+use Rattle.lists.specs.PartLaws.{length_part, three_parts}
 use Rattle.bits.specs.Octets.{bits_of}
-use Rattle.bits.specs.OctetLaws.{length-bitsOf}
-use Rattle.bch.specs.Bch.{bchBits}
-use Rattle.bch.specs.BchLaws.{length-bchBits}
+use Rattle.bits.specs.OctetLaws.{length_bits_of}
+use Rattle.bch.specs.Bch.{bch_bits}
+use Rattle.bch.specs.BchLaws.{length_bch_bits}
 use Rattle.codeword.specs.Words.{plain}
 use Rattle.slot.specs.SlotLaws.{sizes}
 use Rattle.slot_coder.proofs.stages.put_plain.Statement.{statement}
@@ -28,9 +28,9 @@ ends c =
     let z = sizes s.args.rows s.requires.rows in
     let m = c.message-bits.ensures in
     record {
-      run = omega (arith, s.requires.bits-long);
-      octets = omega (arith, z.source, s.requires.source-long);
-      small = omega (arith, s.requires.bits-long, z.covered, z.all);
+      run = omega (arith, s.requires.bits_long);
+      octets = omega (arith, z.source, s.requires.source_long);
+      small = omega (arith, s.requires.bits_long, z.covered, z.all);
     }
 
 -- the area as each call leaves it, with its length kept
@@ -88,11 +88,11 @@ returns c =
     let end = length a.bits.now in
     let n : length (take (end - (m + 192)) (drop (m + 192) (second y))) ≡ 6 = length_part (m + 192) end (second y) (omega (arith, twice y)) ∙ omega (arith, e.run) in
     let i : x.expand.new.1.0 ≡ bits_of a.source.now = x.expand.ensures in
-    let j : y.of-octets.new.1.0 ≡ bchBits (bits_of a.source.now) = y.of-octets.ensures in
+    let j : y.of-octets.new.1.0 ≡ bch_bits (bits_of a.source.now) = y.of-octets.ensures in
     let k : f.fill.new.0 ≡ replicate 6 1 = f.fill.ensures ∙ ap (λ (l : ℕ). replicate l 1) n in
-    three-parts a.bits.now x.expand.new.1.0 y.of-octets.new.1.0 f.fill.new.0 m (m + 192) end refl (omega arith) (omega (arith, e.run))
-    (ap length i ∙ length-bitsOf a.source.now ∙ omega (arith, e.octets))
-    (ap length j ∙ length-bchBits (bits_of a.source.now) ∙ omega arith)
+    three_parts a.bits.now x.expand.new.1.0 y.of-octets.new.1.0 f.fill.new.0 m (m + 192) end refl (omega arith) (omega (arith, e.run))
+    (ap length i ∙ length_bits_of a.source.now ∙ omega (arith, e.octets))
+    (ap length j ∙ length_bch_bits (bits_of a.source.now) ∙ omega arith)
     (ap length k ∙ omega (arith, e.run))
     ∙ ap₂ (λ (p q : List ℕ). p ++ q) i (ap₂ (λ (p q : List ℕ). p ++ q) j k)
 

@@ -6,13 +6,13 @@ use lib.ListN.{length}
 use lib.Seq.{length-take-le}
 use borrow.Author.Rules.{rules}
 use Rattle.lists.specs.Parts.{part}
-use Rattle.lists.specs.PartLaws.{length_part, part-rest, take-lent}
-use Rattle.lists.specs.RunLaws.{below-take, below-part, below-drop}
+use Rattle.lists.specs.PartLaws.{length_part, part_rest, take_lent}
+use Rattle.lists.specs.RunLaws.{below_take, below_part, below_drop}
 use Rattle.bits.specs.Digits.{number}
 use Rattle.bits.specs.DigitLaws.{number_lt}
-use Rattle.bits.specs.Octets.{octetsOf}
-use Rattle.codeword.specs.Reading.{tailIn}
-use Rattle.slot.specs.Slots.{messageBits, slotShape}
+use Rattle.bits.specs.Octets.{octets_of}
+use Rattle.codeword.specs.Reading.{tail_in}
+use Rattle.slot.specs.Slots.{message_bits, slot_shape}
 use Rattle.slot.specs.SlotLaws.{sizes}
 use Rattle.slot_reader.proofs.received.take_source.Statement.{statement}
 use Rattle.slot_reader.proofs.received.take_source.Tie as tie
@@ -27,7 +27,7 @@ collect-requires c κs =
     let e = k.message-bits.ensures in
     record {
       eights = length-take-le (m - 0) u (omega (arith, s.requires.all)) ∙ omega (arith, z.source, s.requires.long);
-      bits = below-take 1 (m - 0) u s.requires.bits;
+      bits = below_take 1 (m - 0) u s.requires.bits;
     }
 
 gather-requires : tie.Need-gather-requires
@@ -38,26 +38,26 @@ gather-requires c κs =
     let m = k.message-bits.result in
     record {
       few = omega (arith, length_part (m + 192) (length u) u (omega arith), k.message-bits.ensures, s.requires.all);
-      bits = below-part 1 (m + 192) (length u) u s.requires.bits;
+      bits = below_part 1 (m + 192) (length u) u s.requires.bits;
     }
 
 -- the stuff bits as a number
 stuffed : (c : tie.After-gather)
     → let a = c.before.before.before.before.before.before.before.before.before.before.args in
-    c.gather.result ≡ number 6 (tailIn (slotShape a.rows) a.plain.now)
+    c.gather.result ≡ number 6 (tail_in (slot_shape a.rows) a.plain.now)
 stuffed c =
     let k = c.before.before.before.before.before.before.before in
     let s = k.before.before.before in
     let u = s.args.plain.now in
     let m = k.message-bits.result in
     let n : length (part (m + 192) (length u) u) ≡ 6 = length_part (m + 192) (length u) u (omega arith) ∙ omega (arith, k.message-bits.ensures, s.requires.all) in
-    c.gather.ensures ∙ rw (n, part-rest (m + 192) u, k.message-bits.ensures)
+    c.gather.ensures ∙ rw (n, part_rest (m + 192) u, k.message-bits.ensures)
 
 cast-result : tie.Need-overflow-cast-result
 cast-result c =
     let s = c.before.before.before.before.before.before.before.before.before.before in
-    let u = tailIn (slotShape s.args.rows) s.args.plain.now in
-    omega (arith, stuffed c, number_lt 6 u (below-drop 1 (messageBits s.args.rows + 192) s.args.plain.now s.requires.bits))
+    let u = tail_in (slot_shape s.args.rows) s.args.plain.now in
+    omega (arith, stuffed c, number_lt 6 u (below_drop 1 (message_bits s.args.rows + 192) s.args.plain.now s.requires.bits))
 
 returns : tie.Need-returns
 returns c =
@@ -66,7 +66,7 @@ returns c =
     let s = k.before.before.before in
     let a = s.args in (
       stuffed c,
-      o.collect.ensures ∙ ap₂ octetsOf s.requires.long (take-lent _ (messageBits a.rows) a.plain.now k.message-bits.ensures),
+      o.collect.ensures ∙ ap₂ octets_of s.requires.long (take_lent _ (message_bits a.rows) a.plain.now k.message-bits.ensures),
     )
 
 pub take-source-spec : {M : Type 1} → statement M

@@ -4,16 +4,16 @@ use Prim.Native.Nat.{ℕ}
 use lib.ListN.{length, replicate, length-replicate}
 use borrow.Author.Rules.{rules}
 use Rattle.refusal.specs.AnswerLaws.{refused, accepted}
-use Rattle.symbols.specs.CallLaws.{Lengths, block-labels-ready}
-use Rattle.plan.specs.Sizes.{block_bits, blockOctets}
-use Rattle.symbols.specs.Labels.{blockLabels}
-use Rattle.symbols.proofs.Ready.{block-areas, octets-left}
+use Rattle.symbols.specs.CallLaws.{Lengths, block_labels_ready}
+use Rattle.plan.specs.Sizes.{block_bits, block_octets}
+use Rattle.symbols.specs.Labels.{block_labels}
+use Rattle.symbols.proofs.Ready.{block_areas, octets_left}
 use Rattle.symbols.proofs.calls.block_of_labels.Statement.{statement}
 use Rattle.symbols.proofs.calls.block_of_labels.Tie as tie
 
 -- what number 0 says
-ready : (c : tie.Else1) → Lengths blockOctets blockLabels (length c.before.before.before.before.args.block.now) (length c.before.before.before.before.args.labels.now)
-ready c = block-labels-ready _ _ (sym c.before.block-of-labels-number.ensures ∙ c.if1.false)
+ready : (c : tie.Else1) → Lengths block_octets block_labels (length c.before.before.before.before.args.block.now) (length c.before.before.before.before.args.labels.now)
+ready c = block_labels_ready _ _ (sym c.before.block-of-labels-number.ensures ∙ c.if1.false)
 
 returns : tie.Need-returns
 returns c = refused _ _ _ _ c.before.block-of-labels-number.ensures c.if1.true
@@ -22,14 +22,14 @@ unlabel-octets-requires : tie.Need-unlabel-octets-requires
 unlabel-octets-requires c κs =
     let b = c.before.before in
     let a = b.before.before.before.before.args in
-    block-areas a.block.now (replicate block_bits 0) a.labels.now (ready b) (length-replicate {A = ℕ} block_bits 0)
+    block_areas a.block.now (replicate block_bits 0) a.labels.now (ready b) (length-replicate {A = ℕ} block_bits 0)
 
 returns-2 : tie.Need-returns-2
 returns-2 c =
     let w = c.before.before.before in
     let b = w.before.before.before in
     accepted _ _ _ _ (sym b.before.block-of-labels-number.ensures ∙ b.if1.false)
-    (octets-left _ _ 1 1 _ _ _ _ _ _ w.unlabel-octets.ensures (ready b).octets refl (ready b).labels refl)
+    (octets_left _ _ 1 1 _ _ _ _ _ _ w.unlabel-octets.ensures (ready b).octets refl (ready b).labels refl)
 
 pub block-of-labels-spec : {M : Type 1} → statement M
 block-of-labels-spec = tie.close (tie.spec (λ c κs. search rules) returns (λ c. search rules) unlabel-octets-requires (λ c. search rules) returns-2)

@@ -1,11 +1,11 @@
 -- `symbols::block_number`: as the definition.
 use borrow.Author.Rules.{rules}
-use Rattle.symbols.specs.Labels.{blockNumber}
+use Rattle.symbols.specs.Labels.{block_number}
 use Rattle.symbols.proofs.numbers.block_number.Statement.{statement}
 use Rattle.symbols.proofs.numbers.block_number.Tie as tie
 
 returns : tie.Need-returns
-unfolding blockNumber
+unfolding block_number
 returns c = c.length-number.ensures
 
 pub block-number-spec : {M : Type 1} → statement M

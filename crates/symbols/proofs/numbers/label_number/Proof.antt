@@ -9,8 +9,8 @@ use lib.ListN.{length, get_or}
 use borrow.Author.Rules.{rules}
 use borrow.Author.Tests.{lt-ltb, le-ltb}
 use Rattle.lists.specs.Count.{every}
-use Rattle.lists.specs.CountLaws.{every-none, every-next, every-not}
-use Rattle.symbols.specs.Labels.{labelNumber}
+use Rattle.lists.specs.CountLaws.{every_none, every_next, every_not}
+use Rattle.symbols.specs.Labels.{label_number}
 use Rattle.symbols.specs.LabelLaws.{one_shifted}
 use Rattle.symbols.proofs.numbers.label_number.Statement.{statement}
 use Rattle.symbols.proofs.numbers.label_number.Tie as tie
@@ -31,16 +31,16 @@ abbrev decreases-loop : tie.decreases-loop
 decreases-loop modulation labels limit r₀ r = length labels - r
 
 loop-holds : tie.Need-loop-init invariant-loop decreases-loop
-loop-holds c = record { passed = search rules; power = one_shifted c.before.args.modulation c.before.requires; right = every-none _ }
+loop-holds c = record { passed = search rules; power = one_shifted c.before.args.modulation c.before.requires; right = every_none _ }
 
 returns : tie.Need-returns invariant-loop decreases-loop
-unfolding labelNumber
+unfolding label_number
 returns c =
     let l = c.before.before.before.before.loop in
     let a = c.before.before.before.before.before.before.args in
     let u = a.labels.now in
     let f : fits a.modulation u l.r ≡ false = le-ltb (get_or u l.r 0) (2 ^ a.modulation) (omega (arith, l.invariant.power, c.before.wide.ensures.0, c.if1.true)) in
-    rw (every-not (length u) (fits a.modulation u) l.r (search rules) f)
+    rw (every_not (length u) (fits a.modulation u) l.r (search rules) f)
 
 loop-again : tie.Need-loop-preserved invariant-loop decreases-loop
 loop-again c =
@@ -48,10 +48,10 @@ loop-again c =
     let a = c.before.before.before.before.before.before.args in
     let u = a.labels.now in
     let f : fits a.modulation u l.r ≡ true = lt-ltb (get_or u l.r 0) (2 ^ a.modulation) (omega (arith, l.invariant.power, c.before.wide.ensures.0, c.if1.false)) in
-    record { passed = search rules; power = l.invariant.power; right = every-next l.r (fits a.modulation u) l.invariant.right f }
+    record { passed = search rules; power = l.invariant.power; right = every_next l.r (fits a.modulation u) l.invariant.right f }
 
 returns-2 : tie.Need-returns-2 invariant-loop decreases-loop
-unfolding labelNumber
+unfolding label_number
 returns-2 c =
     let l = c.before.loop in
     let a = c.before.before.before.args in

@@ -5,7 +5,7 @@ use borrow.Author.Rules.{rules}
 use borrow.Author.Tests.{leb-true}
 use lib.Dec.{leb}
 use Rattle.lists.specs.ChoiceLaws.{and_left}
-use Rattle.symbols.specs.Labels.{slotNumber}
+use Rattle.symbols.specs.Labels.{slot_number}
 use Rattle.symbols.proofs.numbers.slot_number.Statement.{statement}
 use Rattle.symbols.proofs.numbers.slot_number.Tie as tie
 
@@ -16,7 +16,7 @@ div-length-number c =
     omega (arith, leb-true 1 m (and_left (leb 1 m) _ (sym t.before.known.ensures ∙ t.if1.true)))
 
 returns : tie.Need-returns
-unfolding slotNumber
+unfolding slot_number
 returns c =
     let r = c.before in
     let t = r.before.before in
@@ -24,13 +24,13 @@ returns c =
     c.length-number.ensures
 
 returns-2 : tie.Need-returns-2
-unfolding slotNumber
+unfolding slot_number
 returns-2 c =
     let t = c.before.before in
     rw (sym t.before.known.ensures ∙ t.if1.true, sym c.before.known2.ensures ∙ c.if2.false)
 
 returns-3 : tie.Need-returns-3
-unfolding slotNumber
+unfolding slot_number
 returns-3 c = rw (sym c.before.known.ensures ∙ c.if1.false)
 
 pub slot-number-spec : {M : Type 1} → statement M

@@ -5,7 +5,7 @@ use native.Mathlib.Omega.{arith}
 use borrow.Author.Rules.{rules}
 use borrow.Author.Tests.{le-leb, lt-leb}
 use Rattle.symbols.specs.Index.{bit_at}
-use Rattle.symbols.proofs.Strides.{column-small}
+use Rattle.symbols.proofs.Strides.{column_small}
 use Rattle.symbols.proofs.places.first_bit.Statement.{statement}
 use Rattle.symbols.proofs.places.first_bit.Tie as tie
 
@@ -16,7 +16,7 @@ returns c = let a = c.before.args in rw (le-leb a.modulation 2 c.if1.true) (omeg
 mul-result : tie.Need-overflow-mul-result
 mul-result c =
     let s = c.before.before in
-    omega (arith, column-small (s.args.modulation - 1 - s.args.place) s.args.symbols (search rules) s.requires.few)
+    omega (arith, column_small (s.args.modulation - 1 - s.args.place) s.args.symbols (search rules) s.requires.few)
 
 returns-2 : tie.Need-returns-2
 unfolding bit_at
@@ -25,7 +25,7 @@ returns-2 c = rw (lt-leb c.before.before.args.modulation 2 c.before.if1.false, c
 mul-result-2 : tie.Need-overflow-mul-result-2
 mul-result-2 c =
     let s = c.before.before in
-    omega (arith, column-small s.args.place s.args.symbols (search rules) s.requires.few)
+    omega (arith, column_small s.args.place s.args.symbols (search rules) s.requires.few)
 
 returns-3 : tie.Need-returns-3
 unfolding bit_at

@@ -8,7 +8,7 @@ use lib.Bits.{and_mask}
 use lib.ListN.{length, get_or}
 use borrow.Author.Rules.{rules}
 use Rattle.symbols.specs.Needs.{Put, weighed}
-use Rattle.symbols.proofs.Strides.{next-step, put-none, put-more}
+use Rattle.symbols.proofs.Strides.{next_step, put_none, put_more}
 use Rattle.symbols.proofs.places.put_place.Statement.{statement}
 use Rattle.symbols.proofs.places.put_place.Tie as tie
 
@@ -31,7 +31,7 @@ loop-holds c =
       passed = search rules;
       place = omega (arith, mul-zero a.step);
       same = refl;
-      done = put-none (weighed a.labels.now a.shift) a.start a.step a.bits.now;
+      done = put_none (weighed a.labels.now a.shift) a.start a.step a.bits.now;
     }
 
 -- the bit that a turn puts has a place
@@ -47,8 +47,8 @@ loop-again c =
     let s = c.before.before.before in
     let a = s.args in
     let w : l.at < length a.bits.now = within c.before in
-    let d = put-more l.r (weighed a.labels.now a.shift) a.start a.step a.bits.now l.bits s.requires.strided.small.low (omega (arith, l.invariant.place)) l.invariant.done l.at _ l.invariant.place (and_mask (get_or a.labels.now l.r 0 / 2 ^ a.shift) 1) in
-    record { passed = search rules; place = omega (arith, l.invariant.place, next-step a.step l.r); same = d.long; done = d }
+    let d = put_more l.r (weighed a.labels.now a.shift) a.start a.step a.bits.now l.bits s.requires.strided.small.low (omega (arith, l.invariant.place)) l.invariant.done l.at _ l.invariant.place (and_mask (get_or a.labels.now l.r 0 / 2 ^ a.shift) 1) in
+    record { passed = search rules; place = omega (arith, l.invariant.place, next_step a.step l.r); same = d.long; done = d }
 
 returns : tie.Need-returns invariant-loop decreases-loop
 returns c =

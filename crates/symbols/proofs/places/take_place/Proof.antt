@@ -6,11 +6,11 @@ use native.Mathlib.Nat.{mul-zero}
 use native.Mathlib.Omega.{arith}
 use lib.ListN.{length, get_or}
 use borrow.Author.Rules.{rules}
-use Rattle.lists.specs.CountLaws.{length-table, getD-table}
+use Rattle.lists.specs.CountLaws.{length_table, get_or_table}
 use Rattle.lists.specs.Filling.{Filling}
-use Rattle.lists.specs.FillingLaws.{filling-none, filling-here, filling-more, filling-all}
+use Rattle.lists.specs.FillingLaws.{filling_none, filling_here, filling_more, filling_all}
 use Rattle.symbols.specs.Needs.{grown}
-use Rattle.symbols.proofs.Strides.{next-step}
+use Rattle.symbols.proofs.Strides.{next_step}
 use Rattle.symbols.proofs.places.take_place.Statement.{statement}
 use Rattle.symbols.proofs.places.take_place.Tie as tie
 
@@ -26,13 +26,13 @@ decreases-loop bits start step labels₀ r₀ at₀ labels r at = length labels�
 
 loop-holds : tie.Need-loop-init invariant-loop decreases-loop
 unfolding grown
-loop-holds c = record { place = omega (arith, mul-zero c.args.step); filling = filling-none _ _ (length-table _ _) }
+loop-holds c = record { place = omega (arith, mul-zero c.args.step); filling = filling_none _ _ (length_table _ _) }
 
 -- the label that a turn reads is as it was found, and has room for a bit
 room : (c : tie.In-loop invariant-loop decreases-loop) → get_or c.before.loop.labels c.before.loop.r 0 < 128
 room c =
     let l = c.before.loop in
-    rw (filling-here _ _ l.r l.labels l.invariant.filling) (c.before.before.requires.room l.r)
+    rw (filling_here _ _ l.r l.labels l.invariant.filling) (c.before.before.requires.room l.r)
 
 -- the bit that it reads is one of the run
 within : (c : tie.In-loop invariant-loop decreases-loop) → c.before.loop.at < length c.before.before.args.bits.now
@@ -56,15 +56,15 @@ loop-again c =
     let s = c.before.before.before.before in
     let a = s.args in
     let h : l.r < length a.labels.now = search rules in
-    let x = filling-here _ _ l.r l.labels l.invariant.filling in
+    let x = filling_here _ _ l.r l.labels l.invariant.filling in
     let b = ap (λ (k : ℕ). get_or a.bits.now k 0) l.invariant.place in
     record {
-      place = omega (arith, l.invariant.place, next-step a.step l.r);
-      filling = filling-more _ _ l.r l.labels l.invariant.filling _ h (ap₂ (λ (p q : ℕ). p * 2 + q) x b ∙ sym (getD-table (length a.labels.now) _ l.r h));
+      place = omega (arith, l.invariant.place, next_step a.step l.r);
+      filling = filling_more _ _ l.r l.labels l.invariant.filling _ h (ap₂ (λ (p q : ℕ). p * 2 + q) x b ∙ sym (get_or_table (length a.labels.now) _ l.r h));
     }
 
 returns : tie.Need-returns invariant-loop decreases-loop
-returns c = let l = c.before.loop in filling-all _ _ l.r l.labels l.invariant.filling (search rules)
+returns c = let l = c.before.loop in filling_all _ _ l.r l.labels l.invariant.filling (search rules)
 
 pub take-place-spec : {M : Type 1} → statement M
 take-place-spec =

@@ -6,10 +6,10 @@ use Prim.Native.Nat.{ℕ, ◌*◌, ◌-◌, ◌≤◌}
 use native.Mathlib.Omega.{arith}
 use lib.ListN.{length, length-replicate}
 use borrow.Author.Rules.{rules}
-use Rattle.lists.specs.CountLaws.{length-table}
+use Rattle.lists.specs.CountLaws.{length_table}
 use Rattle.symbols.specs.Index.{stride_of}
-use Rattle.symbols.specs.Labels.{labelsOf}
-use Rattle.symbols.proofs.Turns.{labelsTo, to_none, taking, taken, to-all}
+use Rattle.symbols.specs.Labels.{labels_of}
+use Rattle.symbols.proofs.Turns.{labels_to, to_none, taking, taken, to_all}
 use Rattle.symbols.proofs.runs.label_bits.Statement.{statement}
 use Rattle.symbols.proofs.runs.label_bits.Tie as tie
 
@@ -17,7 +17,7 @@ record Inv (m : ℕ) (leftward : Bool) (run found : List ℕ) (step : ℕ) (labe
   passed : place ≤ m
   stride : step ≡ stride_of m
   same : length labels ≡ length found
-  done : labels ≡ labelsTo m (length found) leftward run place
+  done : labels ≡ labels_to m (length found) leftward run place
 
 abbrev invariant-loop : tie.invariant-loop
 invariant-loop modulation leftward run labels₀ step place₀ labels place = Inv modulation leftward run labels₀ step labels place
@@ -63,7 +63,7 @@ loop-again c =
     let l = b.loop in
     let a = b.before.before.before.before.before.before.before.before.args in
     let d = taken a.modulation _ a.leftward a.run.now l.labels l.place _ _ (search rules) l.invariant.same l.invariant.done t.before.before.first_bit.ensures l.invariant.stride _ t.take-place.ensures in
-    record { passed = search rules; stride = l.invariant.stride; same = ap length d ∙ length-table _ _; done = d }
+    record { passed = search rules; stride = l.invariant.stride; same = ap length d ∙ length_table _ _; done = d }
 
 returns : tie.Need-returns invariant-loop decreases-loop
 returns c =
@@ -72,9 +72,9 @@ returns c =
     let a = b.before.before.before.before.before.before.before.before.args in
     let e : l.place ≡ a.modulation = omega arith in
     l.invariant.done
-    ∙ ap (labelsTo a.modulation _ a.leftward a.run.now) e
-    ∙ to-all a.modulation _ a.leftward a.run.now
-    ∙ ap (λ (n : ℕ). labelsOf a.modulation n a.leftward a.run.now) (cleared b.before)
+    ∙ ap (labels_to a.modulation _ a.leftward a.run.now) e
+    ∙ to_all a.modulation _ a.leftward a.run.now
+    ∙ ap (λ (n : ℕ). labels_of a.modulation n a.leftward a.run.now) (cleared b.before)
 
 pub label-bits-spec : {M : Type 1} → statement M
 label-bits-spec =

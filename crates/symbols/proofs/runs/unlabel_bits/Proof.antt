@@ -7,7 +7,7 @@ use native.Mathlib.Omega.{arith}
 use lib.ListN.{length}
 use borrow.Author.Rules.{rules}
 use Rattle.symbols.specs.Index.{stride_of}
-use Rattle.symbols.proofs.Turns.{strided, Placed, placed-none, placed-more, placed-all}
+use Rattle.symbols.proofs.Turns.{strided, Placed, placed_none, placed_more, placed_all}
 use Rattle.symbols.proofs.runs.unlabel_bits.Statement.{statement}
 use Rattle.symbols.proofs.runs.unlabel_bits.Tie as tie
 
@@ -28,7 +28,7 @@ loop-holds c =
     record {
       passed = search rules;
       stride = c.stride.ensures;
-      done = placed-none s.args.modulation _ s.args.leftward s.args.labels.now s.args.run.now s.requires.long;
+      done = placed_none s.args.modulation _ s.args.leftward s.args.labels.now s.args.run.now s.requires.long;
     }
 
 first-bit-requires : tie.Need-first-bit-requires invariant-loop decreases-loop
@@ -56,14 +56,14 @@ loop-again c =
     let m = a.modulation in
     let u = a.labels.now in
     let p = rw (t.before.before.first_bit.ensures, l.invariant.stride) at t.put-place.ensures in
-    record { passed = search rules; stride = l.invariant.stride; done = placed-more m (length u) a.leftward u l.run _ l.place _ (search rules) l.invariant.done p (omega arith) }
+    record { passed = search rules; stride = l.invariant.stride; done = placed_more m (length u) a.leftward u l.run _ l.place _ (search rules) l.invariant.done p (omega arith) }
 
 returns : tie.Need-returns invariant-loop decreases-loop
 returns c =
     let l = c.before.loop in
     let a = c.before.before.before.before.before.args in
     let e : l.place ≡ a.modulation = omega arith in
-    placed-all a.modulation _ a.leftward a.labels.now l.run (rw e at l.invariant.done)
+    placed_all a.modulation _ a.leftward a.labels.now l.run (rw e at l.invariant.done)
 
 pub unlabel-bits-spec : {M : Type 1} → statement M
 unlabel-bits-spec =

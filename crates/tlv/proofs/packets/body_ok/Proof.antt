@@ -9,8 +9,8 @@ use borrow.Author.Rules.{rules}
 use lib.Dec.{eqb}
 use lib.ListN.{get_or}
 use Rattle.lists.specs.Count.{every}
-use Rattle.lists.specs.CountLaws.{every-none, every-next, every-not}
-use Rattle.tlv.specs.HeadLaws.{body-other, body-null}
+use Rattle.lists.specs.CountLaws.{every_none, every_next, every_not}
+use Rattle.tlv.specs.HeadLaws.{body_other, body_null}
 use Rattle.tlv.proofs.packets.body_ok.Statement.{statement}
 use Rattle.tlv.proofs.packets.body_ok.Tie as tie
 
@@ -27,10 +27,10 @@ abbrev decreases-loop : tie.decreases-loop
 decreases-loop lent p size i₀ body i = body - i
 
 returns : tie.Need-returns invariant-loop decreases-loop
-returns c = body-other _ _ c.if1.true
+returns c = body_other _ _ c.if1.true
 
 loop-holds : tie.Need-loop-init invariant-loop decreases-loop
-loop-holds c = record { null = c.if1.false; long = refl; passed = search rules; right = every-none _ }
+loop-holds c = record { null = c.if1.false; long = refl; passed = search rules; right = every_none _ }
 
 returns-2 : tie.Need-returns-2 invariant-loop decreases-loop
 returns-2 c =
@@ -38,15 +38,15 @@ returns-2 c =
     let a = c.before.before.before.before.before.before.args in
     let q = c.before.before.before.before.before.before.requires in
     let f : ℕ → Bool = λ k. eqb (get_or a.lent.now (a.p + 4 + k) 0) 0xFF in
-    body-null _ a.p (a.size - 4) (ap (λ (k : ℕ). k - 4) q.1) l.invariant.null false
-    (every-not (a.size - 4) f l.i (search rules) (ne_eqb _ 0xFF c.if2.true))
+    body_null _ a.p (a.size - 4) (ap (λ (k : ℕ). k - 4) q.1) l.invariant.null false
+    (every_not (a.size - 4) f l.i (search rules) (ne_eqb _ 0xFF c.if2.true))
 
 loop-again : tie.Need-loop-preserved invariant-loop decreases-loop
 loop-again c =
     let l = c.before.before.before.loop in
     let a = c.before.before.before.before.before.before.args in
     let f : ℕ → Bool = λ k. eqb (get_or a.lent.now (a.p + 4 + k) 0) 0xFF in
-    record { null = l.invariant.null; long = refl; passed = search rules; right = every-next l.i f l.invariant.right (eq-eqb _ 0xFF c.if2.false) }
+    record { null = l.invariant.null; long = refl; passed = search rules; right = every_next l.i f l.invariant.right (eq-eqb _ 0xFF c.if2.false) }
 
 returns-3 : tie.Need-returns-3 invariant-loop decreases-loop
 returns-3 c =
@@ -54,7 +54,7 @@ returns-3 c =
     let a = c.before.before.before.before.args in
     let q = c.before.before.before.before.requires in
     let e : l.i ≡ a.size - 4 = omega arith in
-    body-null _ a.p l.i (e ∙ ap (λ (k : ℕ). k - 4) q.1) l.invariant.null true l.invariant.right
+    body_null _ a.p l.i (e ∙ ap (λ (k : ℕ). k - 4) q.1) l.invariant.null true l.invariant.right
 
 pub body-ok-spec : {M : Type 1} → statement M
 body-ok-spec =

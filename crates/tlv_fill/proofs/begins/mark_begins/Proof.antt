@@ -8,10 +8,10 @@ use native.Mathlib.Omega.{arith}
 use borrow.Author.Rules.{rules}
 use lib.ListN.{length, get_or}
 use Rattle.lists.specs.Filling.{Filling}
-use Rattle.lists.specs.FillingLaws.{filling-none, filling-more, filling-all}
+use Rattle.lists.specs.FillingLaws.{filling_none, filling_more, filling_all}
 use Rattle.tlv.specs.Fill.{reports}
-use Rattle.tlv.specs.FillLaws.{reports-at, length-reports}
-use Rattle.tlv_fill.specs.BeginTurns.{Ahead, ahead-start, ahead-later, report-at}
+use Rattle.tlv.specs.FillLaws.{reports_at_law, length_reports}
+use Rattle.tlv_fill.specs.BeginTurns.{Ahead, ahead_start, ahead_later, report_at}
 use Rattle.tlv_fill.specs.Needs.{MarkNeeds}
 use Rattle.tlv_fill.proofs.begins.mark_begins.Statement.{statement}
 use Rattle.tlv_fill.proofs.begins.mark_begins.Tie as tie
@@ -47,8 +47,8 @@ loop-holds c =
     let a = s.args in
     record {
       place = omega arith;
-      ahead = ahead-start _ s.requires.right _;
-      filling = filling-none _ _ (length-reports a.size (length a.begins.now) a.packets.now a.taken a.owed);
+      ahead = ahead_start _ s.requires.right _;
+      filling = filling_none _ _ (length_reports a.size (length a.begins.now) a.packets.now a.taken a.owed);
     }
 
 within-at : (c : tie.In-loop invariant-loop decreases-loop) → Within c.before.before.before.before.args.size c.before.before.before.before.args.packets.now c.before.before.before.before.args.taken c.before.before.before.before.args.owed c.before.loop.start
@@ -113,16 +113,16 @@ loop-again c =
     = λ z. let m : a.size * 1 ≤ a.size * l.k = mul-le-mul_left a.size z in omega (arith, w.few, w.low) in
     let v : c.report-of.result ≡ get_or (reports a.size (length a.begins.now) a.packets.now a.taken a.owed) l.k 0
     = (rw p at c.report-of.ensures)
-    ∙ report-at a.size l.k a.packets.now a.taken a.owed h later g (omega (arith, (found_at c.before).from))
-    ∙ sym (reports-at a.size (length a.begins.now) a.packets.now a.taken a.owed l.k (omega (arith, l.invariant.filling.same))) in
+    ∙ report_at a.size l.k a.packets.now a.taken a.owed h later g (omega (arith, (found_at c.before).from))
+    ∙ sym (reports_at_law a.size (length a.begins.now) a.packets.now a.taken a.owed l.k (omega (arith, l.invariant.filling.same))) in
     record {
       place = omega arith;
-      ahead = ahead-later a.packets.now s.requires.right _ _ h (omega arith) g;
-      filling = filling-more _ _ l.k l.begins l.invariant.filling c.report-of.result (omega (arith, l.invariant.filling.same)) v;
+      ahead = ahead_later a.packets.now s.requires.right _ _ h (omega arith) g;
+      filling = filling_more _ _ l.k l.begins l.invariant.filling c.report-of.result (omega (arith, l.invariant.filling.same)) v;
     }
 
 returns : tie.Need-returns invariant-loop decreases-loop
-returns c = let l = c.before.loop in filling-all _ _ l.k l.begins l.invariant.filling (omega (arith, l.invariant.filling.same))
+returns c = let l = c.before.loop in filling_all _ _ l.k l.begins l.invariant.filling (omega (arith, l.invariant.filling.same))
 
 pub mark-begins-spec : {M : Type 1} → statement M
 mark-begins-spec =

@@ -4,21 +4,21 @@ use Prim.Native.Nat.{ℕ, ◌-◌}
 use native.Mathlib.Omega.{arith}
 use borrow.Author.Rules.{rules}
 use lib.ListN.{length}
-use Rattle.plan.specs.Rates.{dataOctetsOf}
-use Rattle.tlv.specs.CallLaws.{FillReady, fill-ready, fill-refused, fill_done}
-use Rattle.tlv.specs.Fill.{lacking, reports, takenAfter, owedAfter}
+use Rattle.plan.specs.Rates.{data_octets_of}
+use Rattle.tlv.specs.CallLaws.{FillReady, fill_ready, fill_refused, fill_done}
+use Rattle.tlv.specs.Fill.{lacking, reports, taken_after, owed_after}
 use Rattle.tlv_fill.proofs.calls.fill.Statement.{statement}
 use Rattle.tlv_fill.proofs.calls.fill.Tie as tie
 
 -- what the call had, where it is not refused
 ready : (c : tie.Else1) → let a = c.before.before.before.before.before.before.before.args in FillReady a.rate a.packets.now a.taken a.owed a.slots.now a.begins.now
-ready c = let a = c.before.before.before.before.before.before.before.args in fill-ready a.rate a.packets.now a.taken a.owed a.slots.now a.begins.now (sym c.before.fill-number.ensures ∙ c.if1.false)
+ready c = let a = c.before.before.before.before.before.before.before.args in fill_ready a.rate a.packets.now a.taken a.owed a.slots.now a.begins.now (sym c.before.fill-number.ensures ∙ c.if1.false)
 
 returns : tie.Need-returns
 returns c =
     let a = c.before.before.before.before.before.before.before.args in
     let n = c.before.fill-number in
-    fill-refused a.rate a.packets.now a.taken a.owed a.slots.now a.begins.now n.result n.ensures c.if1.true
+    fill_refused a.rate a.packets.now a.taken a.owed a.slots.now a.begins.now n.result n.ensures c.if1.true
 
 sub-end : tie.Need-overflow-sub-end
 sub-end c =
@@ -49,7 +49,7 @@ mark-begins-requires c κs =
     }
 
 returns-2 : tie.Need-returns-2
-unfolding takenAfter owedAfter
+unfolding taken_after owed_after
 returns-2 c =
     let a = c.before.before.before.before.before.before.before.before.before.before.before.before.before.before.before.before.before.before.before.args in
     let n = c.before.before.before.before.before.before.before.before.before.before.before.before.before.fill-number in
@@ -61,7 +61,7 @@ returns-2 c =
     c.before.before.before.before.before.before.before.before.before.before.lay.ensures
     (c.before.before.before.before.before.mark-begins.ensures
     ∙ ap (λ (x : ℕ). reports x (length a.begins.now) a.packets.now a.taken a.owed) c.before.before.before.before.before.before.before.data-octets.ensures
-    ∙ ap (λ (x : ℕ). reports (dataOctetsOf a.rate) x a.packets.now a.taken a.owed) r.lent.reports)
+    ∙ ap (λ (x : ℕ). reports (data_octets_of a.rate) x a.packets.now a.taken a.owed) r.lent.reports)
 
 pub fill_spec : {M : Type 1} → statement M
 fill_spec =

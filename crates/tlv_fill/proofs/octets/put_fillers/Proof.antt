@@ -4,9 +4,9 @@ use Prim.Native.Nat.{◌+◌, ◌-◌, ◌%◌, ◌<◌}
 use native.Mathlib.Omega.{arith}
 use borrow.Author.Rules.{rules}
 use lib.ListN.{length, get_or}
-use Rattle.lists.specs.FillingLaws.{filling-none, filling-more, filling-all}
+use Rattle.lists.specs.FillingLaws.{filling_none, filling_more, filling_all}
 use Rattle.lists.specs.Filling.{Filling}
-use Rattle.lists.specs.CountLaws.{length-table, getD-table}
+use Rattle.lists.specs.CountLaws.{length_table, get_or_table}
 use Rattle.lists.specs.Count.{table}
 use Rattle.tlv.specs.Fill.{filler}
 use Rattle.tlv_fill.proofs.octets.put_fillers.Statement.{statement}
@@ -19,7 +19,7 @@ abbrev decreases-loop : tie.decreases-loop
 decreases-loop from to₀ i₀ to i = length to₀ - i
 
 loop-holds : tie.Need-loop-init invariant-loop decreases-loop
-loop-holds c = filling-none _ _ (length-table (length c.args.to.now) (λ i. get_or filler ((c.args.from + i) % 4) 0))
+loop-holds c = filling_none _ _ (length_table (length c.args.to.now) (λ i. get_or filler ((c.args.from + i) % 4) 0))
 
 add-to : tie.Need-overflow-add-to invariant-loop decreases-loop
 add-to c = omega (arith, c.before.loop.invariant.same)
@@ -32,7 +32,7 @@ loop-again c =
     let l = c.before.loop in
     let a = c.before.before.args in
     let h : l.i < length a.to.now = omega (arith, l.invariant.same) in
-    filling-more _ _ l.i l.to l.invariant _ h (sym (getD-table (length a.to.now) (λ i. get_or filler ((a.from + i) % 4) 0) l.i h))
+    filling_more _ _ l.i l.to l.invariant _ h (sym (get_or_table (length a.to.now) (λ i. get_or filler ((a.from + i) % 4) 0) l.i h))
 
 same_length : tie.Need-same-length invariant-loop decreases-loop
 same_length c = c.before.loop.invariant.same
@@ -40,7 +40,7 @@ same_length c = c.before.loop.invariant.same
 returns : tie.Need-returns invariant-loop decreases-loop
 returns c =
     let l = c.before.loop in
-    filling-all _ _ l.i l.to l.invariant (omega (arith, l.invariant.same))
+    filling_all _ _ l.i l.to l.invariant (omega (arith, l.invariant.same))
 
 pub put-fillers-spec : {M : Type 1} → statement M
 put-fillers-spec =

@@ -5,7 +5,7 @@ use mathlib.Core.Logic.{⊎_elim}
 use native.Mathlib.Nat.{mul-le-mul_left, mul-le-mul_right}
 use native.Mathlib.Omega.{arith}
 use borrow.Author.Rules.{rules}
-use Rattle.tlv_read.specs.SlotTurns.{Silent, silent-start, silent-lost, silent-none, on-here, on_none}
+use Rattle.tlv_read.specs.SlotTurns.{Silent, silent_start, silent_lost, silent_none, on_here, on_none}
 use Rattle.tlv_read.proofs.slots.next_begin.Statement.{statement}
 use Rattle.tlv_read.proofs.slots.next_begin.Tie as tie
 
@@ -16,7 +16,7 @@ abbrev decreases-loop : tie.decreases-loop
 decreases-loop size count lost begins slot k₀ k = count - k
 
 loop-holds : tie.Need-loop-init invariant-loop decreases-loop
-loop-holds c = silent-start _ _ _ _ _
+loop-holds c = silent_start _ _ _ _ _
 
 -- slot k begins inside the slots, of which there are few enough
 record Within (D n k : ℕ) : Type 0 where
@@ -45,12 +45,12 @@ returns : tie.Need-returns invariant-loop decreases-loop
 returns c =
     let l = c.before.before.before.before.before.before.before.loop in
     ap (λ (r : ℕ). c.before.before.before.before.before.before.before.before.before.before.args.size * l.k + r) c.index.ensures.0
-    ∙ on-here _ _ _ _ _ l.k (search rules) c.before.before.before.before.if1.true c.before.before.if2.true l.invariant
+    ∙ on_here _ _ _ _ _ l.k (search rules) c.before.before.before.before.if1.true c.before.before.if2.true l.invariant
 
 loop-again : tie.Need-loop-preserved invariant-loop decreases-loop
 loop-again c =
     let l = c.before.before.before.loop in
-    ⊎_elim (λ x. silent-none _ _ _ _ _ l.k x.2.left l.invariant) (λ y. silent-lost _ _ _ _ _ l.k y.left l.invariant) c.if1.branch
+    ⊎_elim (λ x. silent_none _ _ _ _ _ l.k x.2.left l.invariant) (λ y. silent_lost _ _ _ _ _ l.k y.left l.invariant) c.if1.branch
 
 returns-2 : tie.Need-returns-2 invariant-loop decreases-loop
 returns-2 c = on_none _ _ _ _ _ c.before.loop.k (search rules) c.before.loop.invariant

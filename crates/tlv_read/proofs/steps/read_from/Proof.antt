@@ -1,6 +1,6 @@
 -- `tlv_read::steps::read_from`: the area holds what was written, and the reading from p on is left.
-use Rattle.tlv_read.specs.ReadTurns.{goal, Turn, Moves, turn-start, turn_end, turn-moves, turn-next}
-use Rattle.lists.specs.PartLaws.{put-lent, length_part}
+use Rattle.tlv_read.specs.ReadTurns.{goal, Turn, Moves, turn_start, turn_end, turn_moves, turn_next}
+use Rattle.lists.specs.PartLaws.{put_lent, length_part}
 use borrow.Author.Rules.{rules}
 use native.Mathlib.Omega.{arith}
 use Prim.Native.Nat.{◌+◌, ◌-◌, ◌*◌}
@@ -18,10 +18,10 @@ decreases-loop size count slots lost begins from packets₀ p₀ w₀ packets p 
 -- a step that goes on
 moves : (c : tie.Else1 invariant-loop decreases-loop) → let a = c.before.before.before.before.before.before.before.args in let l = c.before.before.loop in let r = c.before.step-at.result in
     Moves a.size a.count a.lost.now a.begins.now a.slots.now a.from l.packets l.p l.w r.at r.size
-moves c = turn-moves _ _ _ _ _ _ _ c.before.before.before.before.before.before.before.requires _ _ _ c.before.before.loop.invariant _ _ _ c.if1.false c.before.step-at.ensures
+moves c = turn_moves _ _ _ _ _ _ _ c.before.before.before.before.before.before.before.requires _ _ _ c.before.before.loop.invariant _ _ _ c.if1.false c.before.step-at.ensures
 
 loop-holds : tie.Need-loop-init invariant-loop decreases-loop
-loop-holds c = turn-start _ _ _ _ _ _ _ c.before.before.before.before.requires
+loop-holds c = turn_start _ _ _ _ _ _ _ c.before.before.before.before.requires
 
 step-at-requires : tie.Need-step-at-requires invariant-loop decreases-loop
 step-at-requires c κs = record { reported = c.before.before.before.before.before.requires.lent.reported; long = c.before.before.before.before.before.requires.lent.long; within = c.loop.invariant.within }
@@ -73,8 +73,8 @@ loop-again c =
     let r = c.before.before.before.before.before.before.before.before.step-at in
     let m = moves c.before.before.before.before.before.before.before in
     let y = c.before.before.copy.ensures in
-    turn-next _ _ _ _ _ _ _ c.before.before.before.before.before.before.before.before.before.before.before.before.before.before.requires l.p l.w l.packets l.invariant r.result.at r.result.size r.result.ends c.before.before.before.before.before.before.before.if1.false r.ensures _ _ y
-    (put-lent l.w (l.w + r.result.size) l.packets _ (omega arith)
+    turn_next _ _ _ _ _ _ _ c.before.before.before.before.before.before.before.before.before.before.before.before.before.before.requires l.p l.w l.packets l.invariant r.result.at r.result.size r.result.ends c.before.before.before.before.before.before.before.if1.false r.ensures _ _ y
+    (put_lent l.w (l.w + r.result.size) l.packets _ (omega arith)
     (ap length y ∙ length_part l.p (l.p + r.result.size) a.slots.now m.from_end ∙ omega arith))
 
 pub read-from-spec : {M : Type 1} → statement M

@@ -6,8 +6,8 @@ use native.Mathlib.Omega.{arith}
 use borrow.Author.Rules.{rules}
 use borrow.Author.Tests.{not-true, not-false}
 use Rattle.tlv.specs.Packets.{octets}
-use Rattle.tlv.specs.PacketLaws.{size-least}
-use Rattle.tlv_read.specs.StepLaws.{Headed, Bodied, step_end, no-head, headed, wrong-head, no_body, bodied, wrong-body, packet-kept}
+use Rattle.tlv.specs.PacketLaws.{size_least}
+use Rattle.tlv_read.specs.StepLaws.{Headed, Bodied, step_end, no_head, headed, wrong_head, no_body, bodied, wrong_body, packet_kept}
 use Rattle.tlv_read.proofs.steps.step_at.Statement.{statement}
 use Rattle.tlv_read.proofs.steps.step_at.Tie as tie
 
@@ -30,7 +30,7 @@ returns c = step_end _ _ _ _ _ _ (c.if1.true ∙ c.before.before.before.before.r
 returns-2 : tie.Need-returns-2
 returns-2 c =
     let s = c.before.before.before.before.before.before.before in
-    no-head _ _ _ _ (octets s.args.slots.now) s.args.p (λ e. c.before.before.before.if1.false (e ∙ sym s.requires.long)) _ _ _ _ c.before.before.whole.ensures (not-true _ c.if2.true)
+    no_head _ _ _ _ (octets s.args.slots.now) s.args.p (λ e. c.before.before.before.if1.false (e ∙ sym s.requires.long)) _ _ _ _ c.before.before.whole.ensures (not-true _ c.if2.true)
 
 -- what the head's octets want of the slots
 head-ok-requires : tie.Need-head-ok-requires
@@ -47,7 +47,7 @@ returns-3 : tie.Need-returns-3
 returns-3 c =
     let s = c.before.before.before.before.before.before.before.before.before.before in
     let e = c.behind.ensures in
-    wrong-head _ _ _ _ (octets s.args.slots.now) s.args.p (s.args.p / s.args.size) refl _ _ _ e.1 e.2 e.3
+    wrong_head _ _ _ _ (octets s.args.slots.now) s.args.p (s.args.p / s.args.size) refl _ _ _ e.1 e.2 e.3
     (head-there c.before.before.before) (sym c.before.before.head_ok.ensures ∙ not-true _ c.before.if3.true)
 
 size-at-requires : tie.Need-size-at-requires
@@ -64,7 +64,7 @@ body-ok-requires c κs =
     let s = c.before.before.before.before.before.before.before.before.before.before.before.before.before in
     let f = c.before.before.whole2.ensures.fits (not-false _ c.if4.false) in
     let z = c.before.before.before.size-at.ensures.0 in
-    (omega (arith, s.requires.long), z, omega (arith, size-least (octets s.args.slots.now) s.args.p))
+    (omega (arith, s.requires.long), z, omega (arith, size_least (octets s.args.slots.now) s.args.p))
 
 behind-requires-2 : tie.Need-behind-requires-2
 behind-requires-2 c κs = let s = c.before.before.before.before.before.before.before.before.before.before.before.before.before.before.before in (s.requires.reported, slot_small s)
@@ -73,7 +73,7 @@ returns-5 : tie.Need-returns-5
 returns-5 c =
     let s = c.before.before.before.before.before.before.before.before.before.before.before.before.before.before.before.before in
     let e = c.behind2.ensures in
-    wrong-body _ _ _ _ (octets s.args.slots.now) s.args.p (s.args.p / s.args.size) refl _ _ _ e.1 e.2 e.3
+    wrong_body _ _ _ _ (octets s.args.slots.now) s.args.p (s.args.p / s.args.size) refl _ _ _ e.1 e.2 e.3
     (body-there c.before.before.before) (sym c.before.before.body_ok.ensures ∙ not-true _ c.before.if5.true)
 
 add-t11 : tie.Need-overflow-add-t11
@@ -93,7 +93,7 @@ shared-slice-read-kept c =
 returns-6 : tie.Need-returns-6
 returns-6 c =
     let s = c.before.before.before.before.before.before.before.before.before.before.before.before.before.before.before.before.before in
-    packet-kept _ _ _ _ (octets s.args.slots.now) s.args.p (body-there c.before.before.before.before) (sym c.before.before.before.body_ok.ensures ∙ not-false _ c.before.before.if5.false)
+    packet_kept _ _ _ _ (octets s.args.slots.now) s.args.p (body-there c.before.before.before.before) (sym c.before.before.before.body_ok.ensures ∙ not-false _ c.before.before.if5.false)
     _ _ c.before.before.before.before.before.before.before.size-at.ensures.0 c.kept.ensures
 
 pub step-at-spec : {M : Type 1} → statement M
