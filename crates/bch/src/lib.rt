@@ -1,4 +1,5 @@
 // The 192 BCH bits of a message, eight bits at a time.
+#![tactic(auto)]
 mod division;
 mod message;
 mod table;

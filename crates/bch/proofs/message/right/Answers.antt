@@ -1,0 +1,6 @@
+-- `bch::right`: the BCH bits of the message, compared.
+use borrow.Author.Rules.{rules}
+use Rattle.bch.proofs.message.right.Goals as goal
+
+pub returns : goal.returns
+returns c = cc

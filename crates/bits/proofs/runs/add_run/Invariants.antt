@@ -1,0 +1,16 @@
+-- `bits::add_run`: the area is filled with the sum, each bit read before it is replaced.
+use mathlib.Core.Path.{sym, ap₂, ◌∙◌}
+use Prim.Native.Nat.{ℕ, ◌+◌, ◌-◌, ◌%◌, ◌<◌}
+use lib.ListN.{length}
+use borrow.Author.Rules.{rules}
+use Rattle.lists.specs.Filling.{Filling}
+use Rattle.lists.specs.FillingLaws.{filling_none, filling_here, filling_more, filling_all}
+use Rattle.bits.specs.Sums.{added}
+use Rattle.bits.specs.SumLaws.{length_added, get_or_added}
+use Rattle.bits.proofs.runs.add_run.Given as goal
+
+abbrev pub invariant-loop-i : goal.invariant-loop-i
+invariant-loop-i l = Filling (added l.initial.to l.run) l.initial.to l.i l.to
+
+abbrev pub decreases-loop-i : goal.decreases-loop-i
+decreases-loop-i l = length l.initial.to - l.i

@@ -1,0 +1,24 @@
+-- `parity_table::table_length`: the rows passed are accepted, and the next begins at s.
+use mathlib.Core.Path.{◌≡◌, refl, sym, ap, ◌∙◌}
+use mathlib.Core.List.{List}
+use Prim.Native.Nat.{ℕ, ◌-◌, ◌<◌, ◌≤◌}
+use native.Mathlib.Omega.{arith}
+use lib.ListN.{get_or}
+use borrow.Author.Count.{below_none, below_more}
+use borrow.Author.Rules.{rules}
+use borrow.Author.Tests.{not-true, not-false}
+use Rattle.parity_table.specs.Tables.{positions, row_start}
+use Rattle.parity_table.specs.TableLaws.{Row, row_start_none, row_start_more, row_of, rows_all, rows_no, table_length_yes, table_length_no}
+use Rattle.parity_table.proofs.table_length.Given as goal
+
+pub record Inv (rows : ℕ) (list : List ℕ) (m s r : ℕ) : Type 0 where
+  pub size : m ≡ positions rows
+  pub within : r ≤ rows
+  pub start : s ≡ row_start list r
+  pub passed : (n : ℕ) → n < r → Row (positions rows) list (row_start list n)
+
+abbrev pub invariant-loop-r : goal.invariant-loop-r
+invariant-loop-r l = Inv l.rows l.list l.m l.s l.r
+
+abbrev pub decreases-loop-r : goal.decreases-loop-r
+decreases-loop-r l = l.rows - l.r
