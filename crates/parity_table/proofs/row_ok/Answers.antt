@@ -43,7 +43,7 @@ returns-then-not-address_ok c =
     let l = c.loop-i in
     let a = c.args in
     sym (row_no a.m a.table.now a.s (λ r.
-    clash _ (sym c.address_ok.ensures ∙ not-true _ c.if-not-address_ok.true)
+    clash _ (sym c.address_ok.ensures ∙ c.if-not-address_ok.true)
     (address_yes a.m a.table.now (a.s + 1) l.i (r.below l.i (omega arith)) (λ k h. r.different k l.i h (omega arith)))))
 
 pub loop-i-preserved : goal.loop-i-preserved
@@ -57,7 +57,7 @@ loop-i-preserved c =
       next = v.next;
       whole = v.whole;
       within = search rules;
-      passed = below_more _ _ v.passed (sym c.address_ok.ensures ∙ not-false _ c.if-not-address_ok.false);
+      passed = below_more _ _ v.passed (sym c.address_ok.ensures ∙ c.if-not-address_ok.false);
     }
 
 pub returns : goal.returns

@@ -13,10 +13,10 @@ use Rattle.parity_table.proofs.table_length.Invariants.{Inv}
 use Rattle.parity_table.proofs.table_length.Goals as goal
 
 -- the row at s, where row_ok says that it stands there
-row : (c : tie.Else1 invariant-loop decreases-loop) → Row (positions c.args.rows) c.args.list.now c.loop-r.s
+row : (c : goal.Else-not-row_ok) → Row (positions c.args.rows) c.args.list.now c.loop-r.s
 row c =
     let a = c.args in
-    row_of (positions a.rows) a.list.now c.loop-r.s (sym c.row_ok.ensures ∙ not-false _ c.if-not-row_ok.false)
+    row_of (positions a.rows) a.list.now c.loop-r.s (sym c.row_ok.ensures ∙ c.if-not-row_ok.false)
 
 pub loop-r-init : goal.loop-r-init
 loop-r-init c = record { size = refl; within = search rules; start = sym (row_start_none _); passed = below_none _ }
@@ -26,7 +26,7 @@ returns-then-not-row_ok c =
     let l = c.loop-r in
     let a = c.args in
     sym (table_length_no a.rows a.list.now
-    (rows_no a.rows a.list.now l.r (search rules) (rw l.invariant.start at (sym c.row_ok.ensures ∙ not-true _ c.if-not-row_ok.true))))
+    (rows_no a.rows a.list.now l.r (search rules) (rw l.invariant.start at (sym c.row_ok.ensures ∙ c.if-not-row_ok.true))))
 
 pub overflow_add-s : goal.overflow_add-s
 overflow_add-s c = omega (arith, row c)
@@ -35,10 +35,10 @@ pub offset_bounds-list-s : goal.offset_bounds-list-s
 offset_bounds-list-s c = omega (arith, row c)
 
 pub bounds-list-s : goal.bounds-list-s
-bounds-list-s c = omega (arith, row c)
+bounds-list-s c = omega (arith, row (record { before = c.before.before; type_inv = record { list = c.shared_slice_known-1.given } }))
 
 pub overflow_add-s-in-loop-r : goal.overflow_add-s-in-loop-r
-overflow_add-s-in-loop-r c = omega (arith, row c)
+overflow_add-s-in-loop-r c = omega (arith, row (record { before = c.before.before.before; type_inv = record { list = c.shared_slice_known-1.given } }))
 
 pub loop-r-preserved : goal.loop-r-preserved
 loop-r-preserved c =
@@ -49,7 +49,7 @@ loop-r-preserved c =
       size = l.invariant.size;
       within = search rules;
       start = omega (arith, l.invariant.start, row_start_more a.list.now l.r, ap (λ (n : ℕ). get_or a.list.now n 0) l.invariant.start, c.index.ensures.0);
-      passed = below_more _ _ l.invariant.passed (rw l.invariant.start at (row e));
+      passed = below_more _ _ l.invariant.passed (rw l.invariant.start at (row (record { before = c.before.before.before; type_inv = record { list = c.shared_slice_known-1.given } })));
     }
 
 pub returns : goal.returns
