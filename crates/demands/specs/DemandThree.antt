@@ -1,10 +1,8 @@
 -- Demand 3, proved.
-use Rattle.std.specs.Prelude.{◌≡◌, refl, true, List, [], ◌↔◌, ℕ, ◌+◌, ◌-◌, ◌<◌, ◌≤◌, leb, length}
-use Rattle.std.proofs.Common.{sym, ap₂, ◌∙◌, arith, eq-eqb}
-use Rattle.std.proofs.Math.Path.{ap}
+use Rattle.std.specs.Prelude.{◌≡◌, refl, true, List, [], ◌↔◌, ℕ, ◌+◌, ◌-◌, ◌<◌, ◌≤◌, length}
+use Rattle.std.proofs.Common.{sym, ap, ◌∙◌, arith, eq-eqb}
+use Rattle.std.proofs.Math.Path.{ap₂}
 use Rattle.lists.specs.ChoiceLaws.{then_zero, then_both}
-use Rattle.lists.specs.Count.{first}
-use Rattle.lists.specs.CountLaws.{sum_same, first_same}
 use Rattle.lists.specs.PartLaws.{length_part}
 use Rattle.lists.specs.Runs.{Octets}
 use Rattle.lists.specs.RunLaws.{below_part}
@@ -16,7 +14,7 @@ use Rattle.plan.specs.declared.FrameState.{FrameState}
 use Rattle.plan.specs.Rates.{modulation_ok, rate_ok, rows_of, symbols_of}
 use Rattle.plan.specs.RateLaws.{Rows}
 use Rattle.plan.specs.Sizes.{slot_octets, block_octets}
-use Rattle.plan.specs.Plans.{modulation_of, rate_of, slots_of, slots_before}
+use Rattle.plan.specs.Plans.{modulation_of, rate_of, slots_of}
 use Rattle.plan.specs.PlanLaws.{accepted, Values, group_values}
 use Rattle.plan.specs.Places.{group_at, carries}
 use Rattle.plan.specs.PlaceLaws.{group_holds}
@@ -43,7 +41,7 @@ use Rattle.frame.specs.StepLaws.{coded_data}
 use Rattle.frame.specs.Frames.{rows_of_slot, register_before, state_before, slot_in, source_from, source_in, frame_of, frame_number}
 use Rattle.frame.specs.FrameLaws.{at, source_from_more, source_from_mono, data_long, slot_at}
 use Rattle.frame.specs.CallLaws.{Lent, frame_lent, frame_yes}
-use Rattle.demands.specs.Statements.{Compared, SameGroups, OnePlace, SlotsCompared, FramesCompared, BlocksCompared, SlotsAdded, FramesAdded, BlocksAdded}
+use Rattle.demands.specs.Statements.{Compared, OnePlace, SlotsCompared, FramesCompared, BlocksCompared, SlotsAdded, FramesAdded, BlocksAdded}
 
 -- the symbol call takes a slot under the modulation and the rate of its place
 symbols_taken : (m rate : ℕ) (c : List ℕ) → modulation_ok m ≡ true → rate_ok rate ≡ true → length c ≡ slot_octets → labelsNumber m rate (length c) (symbols_of m) ≡ 0
@@ -81,14 +79,6 @@ place_values s r =
     let a = accepted (plan_in s) r.sound.plan in
     group_values (plan_in s) (group_at (plan_in s) s.slot) a (group_holds (plan_in s) s.slot a r.sound.numbered r.left).group
 
--- of plans of equal groups, the same one reaches a slot
-same_group : (p q : Plan) → SameGroups p q → (k : ℕ) → group_at p k ≡ group_at q k
-unfolding group_at slots_before
-same_group p q e k =
-    first_same p.count _ (λ g. leb k (slots_before q (g + 1)))
-    (λ g h. ap (leb k) (sum_same (g + 1) (slots_of p) (slots_of q) (λ i l. e.slots i (omega arith))))
-    ∙ ap (λ (n : ℕ). first n (λ g. leb k (slots_before q (g + 1)))) e.count
-
 -- a slot that was coded: what its call may assume, and what it leaves
 module _ (s : FrameState) (t x a : List ℕ) (n : (code_answer s t x a).number ≡ 0) where
   granted : Accepted-slot s t x a
@@ -106,12 +96,7 @@ module _ (s : FrameState) (t x a : List ℕ) (n : (code_answer s t x a).number �
 module _ {s z : FrameState} (e : OnePlace s z) (t y b : List ℕ) (n : (code_answer z t y b).number ≡ 0) where
   rows_there : rows_at z ≡ rows_at s
   unfolding rows_at
-  rows_there =
-      let p = plan_in z in
-      let r = (granted z t y b n).place.ready in
-      let h = group_holds p z.slot (accepted p r.sound.plan) r.sound.numbered r.left in
-      ap rows_of (e.groups.rate (group_at p z.slot) h.group
-      ∙ ap (rate_of (plan_in s)) (same_group p (plan_in s) e.groups z.slot ∙ ap (group_at (plan_in s)) e.slot))
+  rows_there = ap₂ (λ p k. rows_of (rate_of p (group_at p k))) e.plan e.slot
 
   left_there : code_area z t y b ≡ slot_of (rows_at s) t s.mask s.register y
   left_there = left z t y b n ∙ rw (rows_there, e.mask, e.register)

@@ -10,18 +10,11 @@ use Rattle.lists.specs.Pieces.{pieces_all}
 use Rattle.lists.specs.Runs.{Octets}
 use Rattle.lists.specs.RunLaws.{below_append, below_part}
 use Rattle.refusal.specs.Numbers.{DUMMY}
-use Rattle.dispersal.specs.DispersalLaws.{dispersed_twice}
-use Rattle.bch.specs.BchLaws.{bch_bits_bits, length_bch_bits, bch_bits_is_remainder, bch_bits_only}
 use Rattle.plan.specs.declared.Plan.{Plan}
 use Rattle.plan.specs.declared.FrameState.{FrameState}
 use Rattle.plan.specs.Sizes.{slot_octets, frame_octets}
 use Rattle.plan.specs.Places.{group_at, carries}
 use Rattle.plan.specs.Rates.{packets_of}
-use Rattle.plan.specs.RateLaws.{five_hold}
-use Rattle.plan.specs.Plans.{modulation_of, slots_of, data_slots_of}
-use Rattle.plan.specs.PlanLaws.{accepted, group_values}
-use Rattle.plan.specs.PlaceLaws as runs
-use Rattle.plan.specs.PlaceLaws.{group_holds}
 use Rattle.packets.specs.Packets.{packed}
 use Rattle.packets.specs.PacketLaws.{packed_octets, pack_unpack, unpack_pack}
 use Rattle.symbols.specs.CallLaws.{slot_labels_slot, labels_slot_labels, block_labels_block, labels_block_labels}
@@ -46,7 +39,7 @@ use Rattle.frame.specs.FrameLaws.{at, source_from_none, source_from_more, data_l
 use Rattle.frame.specs.CallLaws.{Lent, frame_lent, frame_yes, read_lent, read_yes}
 use Rattle.frame.specs.SlotBySlot.{coded_to_law, read_to_law, taken, code_answer_law, code_area_law, read_answer_law, read_area_law, pass_answer}
 use Rattle.lookup.specs.LookupLaws.{tables_accepted}
-use Rattle.demands.specs.Statements.{SlotCodedThenRead, SlotReadThenCoded, header_octets, PacketsCodedThenRead, PacketsReadThenPacked, PublishedTablesTaken, SlotAccepted, FrameSlotAccepted, BlockAccepted, SlotMovesOn, PackedThenUnpacked, UnpackedThenPacked, FrameCodedThenRead, FrameReadThenCoded, FrameCodedBySlots, FrameReadBySlots, BlockCodedThenRead, BlockReadThenCoded, SlotLabelsBack, LabelsSlotBack, BlockLabelsBack, LabelsBlockBack, RunsCover, FivesHold, BchRemainder, DispersedTwice}
+use Rattle.demands.specs.Statements.{SlotCodedThenRead, SlotReadThenCoded, header_octets, PacketsCodedThenRead, PacketsReadThenPacked, PublishedTablesTaken, SlotAccepted, FrameSlotAccepted, BlockAccepted, SlotMovesOn, PackedThenUnpacked, UnpackedThenPacked, FrameCodedThenRead, FrameReadThenCoded, FrameCodedBySlots, FrameReadBySlots, BlockCodedThenRead, BlockReadThenCoded, SlotLabelsBack, LabelsSlotBack, BlockLabelsBack, LabelsBlockBack}
 
 pub slot_coded_then_read : SlotCodedThenRead
 slot_coded_then_read = slots.code_then_read
@@ -115,30 +108,6 @@ block_labels_back = block_labels_block
 
 pub labels_block_back : LabelsBlockBack
 labels_block_back = labels_block_labels
-
-pub runs_cover : RunsCover
-runs_cover p h = record {
-  cover = λ s l m. ((group_holds p s (accepted p h) l m).group, runs.runs_cover p s h l m);
-  once = λ s g b. runs.runs_once p s g b h;
-  within = λ s g b. runs.runs_within p s g b h;
-}
-
-pub fives_hold : FivesHold
-unfolding data_slots_of
-fives_hold p g h l =
-    let v = group_values p g (accepted p h) l in
-    five_hold (modulation_of p g) (slots_of p g) v.modulation v.fives
-
-pub bch_remainder : BchRemainder
-bch_remainder m o = record {
-  bits = bch_bits_bits m;
-  long = length_bch_bits m;
-  divides = (bch_bits_is_remainder m o).divides;
-  only = λ b z l d. sym (bch_bits_only m b o z l d);
-}
-
-pub dispersed_back : DispersedTwice
-dispersed_back = dispersed_twice
 
 -- a dummy has no header and data octets
 no_octets : (p : Plan) (u v : List ℕ) (k : ℕ) → carries p (k + 1) ≡ false → source_in p u k ≡ source_in p v k

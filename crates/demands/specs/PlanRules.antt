@@ -11,7 +11,7 @@ use Rattle.plan.specs.Plans.{slots_before, groups_ok, values_ok, falls_after, pl
 use Rattle.plan.specs.PlanLaws.{plan_ok_law, wrong_groups, wrong_value, wrong_order, wrong_total}
 use Rattle.plan.specs.States.{open_number, opened, sound_number, state_number, pass_number, passed}
 use Rattle.plan_text.specs.Reading.{line_start, lines_of, text_number, plan_of as planOfText, read_number as readTextNumber}
-use Rattle.run_list.specs.Listing.{listed, refused_text, answer_text}
+use Rattle.run_list.specs.Listing.{refused_text, answer_text}
 use Rattle.published.specs.Published.{copy_number}
 use Rattle.packets.specs.Packets.{size_number, pack_number, unpack_number}
 use Rattle.symbols.specs.Labels.{slot_number as labelsNumber, slot_of_labels_number}
@@ -28,7 +28,7 @@ pub plan_refused : PlanRefused
 plan_refused p = record { groups = wrong_groups p; value = wrong_value p; order = wrong_order p; total = wrong_total p }
 
 pub refused_plan_answered : RefusedPlanAnswered
-unfolding opened open_number whole_number frame_number read_frame_number tables_number placed place_number listed
+unfolding opened open_number whole_number frame_number read_frame_number tables_number placed place_number
 refused_plan_answered p h =
     let o : (mask start : ℕ) → open_number p mask start ≡ plan_number p = λ mask start. then_first (plan_number p) _ h in
     record {
@@ -37,7 +37,6 @@ refused_plan_answered p h =
       read = λ mask start ts source frame answers stuff positions. onward (open_number p mask start) _ _ (o mask start) h;
       tables = λ area. then_first (plan_number p) _ h;
       place = λ slot. rw (ne_eqb (slot + 1) 0 (λ e. omega arith)) (then_first (plan_number p) _ h);
-      list = refl;
     }
 
 -- the refusal of a state's slot number or plan is the answer of every call

@@ -1,5 +1,5 @@
 -- What document 02, N6, asks of signal points, as statements over the definitions that the contracts of the public entries cite.
-use Rattle.std.specs.Prelude.{◌≡◌, Bool, true, false, ◌&&◌, List, [], ◌∷◌, ◌⊎◌, ℕ, ◌+◌, ◌*◌, ◌%◌, ◌^◌, ◌<◌, T, ltb, Float, length, get_or}
+use Rattle.std.specs.Prelude.{◌≡◌, Bool, true, false, ◌&&◌, List, ◌⊎◌, ℕ, ◌+◌, ◌*◌, ◌%◌, ◌^◌, ◌<◌, T, ltb, Float, length, get_or}
 use Rattle.std.specs.Float.{nan, binary32}
 use Rattle.std.specs.Float.Ieee.{neg, is_nan, fits, to_bits, of_bits}
 use Rattle.std.specs.Float.Ieee.Scale.{finite}
@@ -119,33 +119,16 @@ pub record PointsRefused : Type 0 where
   pub symbol_0 : (ins quads : ℕ) → lent_ok bpsk 0 ins quads ≡ false
   pub symbol_any : (m symbol ins quads : ℕ) → (m ≡ bpsk → ⊥) → lent_ok m symbol ins quads ≡ lent_ok m 0 ins quads
 
--- lists of the same lengths, with the same entries for these labels, and for others any
-pub record SameUsed (labels : List ℕ) (ins quads ins' quads' : List Float) : Type 0 where
-  pub i_long : length ins ≡ length ins'
-  pub q_long : length quads ≡ length quads'
-  pub i : (r : ℕ) → r < length labels → get_or ins (get_or labels r 0) nan ≡ get_or ins' (get_or labels r 0) nan
-  pub q : (r : ℕ) → r < length labels → get_or quads (get_or labels r 0) nan ≡ get_or quads' (get_or labels r 0) nan
-
--- a refusal that is tested before 18
-pub record Early (n : ℕ) : Type 0 where
-  pub refused : n ≡ 0 → ⊥
-  pub not_last : n ≡ COORDINATE → ⊥
-
--- "18 coordinate (an entry used is infinite or not a number)": entries of labels that a call does not use change neither its
--- number, accepted or refused, nor its points; and a call that is refused before 18 uses no label's
-pub record UnusedUnseen (ins quads ins' quads' : List Float) : Type 0 where
-  pub point : (m label symbol : ℕ) → SameUsed (label ∷ []) ins quads ins' quads'
-      → (point_number m label symbol ins quads ≡ point_number m label symbol ins' quads') × (point_of m symbol ins quads label ≡ point_of m symbol ins' quads' label)
-  pub arranged : (m label symbol mask register : ℕ) → SameUsed (label ∷ []) ins quads ins' quads'
-      → (arranged_number m label symbol ins quads mask register ≡ arranged_number m label symbol ins' quads' mask register) × (arranged_of register (point_of m symbol ins quads label) ≡ arranged_of register (point_of m symbol ins' quads' label))
-  pub run : (m symbol : ℕ) (labels : List ℕ) (i q : ℕ) → SameUsed labels ins quads ins' quads'
-      → (points_number m symbol labels ins quads i q ≡ points_number m symbol labels ins' quads' i q) × ((in_phase_of m symbol labels ins quads ≡ in_phase_of m symbol labels ins' quads') × (quadrature_of m symbol labels ins quads ≡ quadrature_of m symbol labels ins' quads'))
-  pub point_early : (m label symbol : ℕ) → SameUsed [] ins quads ins' quads' → Early (point_number m label symbol ins quads)
-      → point_number m label symbol ins quads ≡ point_number m label symbol ins' quads'
-  pub arranged_early : (m label symbol mask register : ℕ) → SameUsed [] ins quads ins' quads' → Early (arranged_number m label symbol ins quads mask register)
-      → arranged_number m label symbol ins quads mask register ≡ arranged_number m label symbol ins' quads' mask register
-  pub run_early : (m symbol : ℕ) (labels : List ℕ) (i q : ℕ) → SameUsed [] ins quads ins' quads' → Early (points_number m symbol labels ins quads i q)
-      → points_number m symbol labels ins quads i q ≡ points_number m symbol labels ins' quads' i q
+-- "18 coordinate (an entry used is infinite or not a number)": lists that differ in entries of other labels alone give the same
+-- number and the same point
+abbrev pub UnusedUnseen : Type 0
+UnusedUnseen =
+    (m label symbol : ℕ) (ins quads ins' quads' : List Float)
+    → length ins ≡ length ins'
+    → length quads ≡ length quads'
+    → get_or ins label nan ≡ get_or ins' label nan
+    → get_or quads label nan ≡ get_or quads' label nan
+    → (point_number m label symbol ins quads ≡ point_number m label symbol ins' quads') × (point_of m symbol ins quads label ≡ point_of m symbol ins' quads' label)
 
 -- the points of a run of labels are those of the labels, one by one, under the symbol number of each; the run is accepted where
 -- each label is

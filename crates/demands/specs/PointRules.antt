@@ -1,10 +1,10 @@
 -- Document 02, N6, proved.
-use Rattle.std.specs.Prelude.{◌≡◌, false, not, ◌&&◌, List, [], ◌∷◌, T, eqb, Float, ℤ, length, get_or}
+use Rattle.std.specs.Prelude.{◌≡◌, false, not, ◌&&◌, List, T, eqb, Float, ℤ, length, get_or}
 use Rattle.std.proofs.Math.Path.{refl}
-use Rattle.std.proofs.Common.{sym, ap, ap₂, ◌∙◌, inl, inr, ext_get_or}
+use Rattle.std.proofs.Common.{sym, ap, ap₂, ◌∙◌, inl, inr}
 use Rattle.std.proofs.Math.Bool.{Bool, true}
 use Rattle.std.proofs.lemmas.Bool.{false≢true}
-use Prim.Native.Nat.{ℕ, zero, suc, ◌+◌, ◌*◌, ◌%◌, ◌^◌, ◌<◌}
+use Prim.Native.Nat.{ℕ, ◌+◌, ◌*◌, ◌%◌, ◌^◌, ◌<◌}
 use native.Mathlib.Omega.{arith}
 use borrow.Author.Tests.{eq-eqb, ne_eqb, ltb-true, lt-ltb}
 use Rattle.std.proofs.Math.Dec.{ltb}
@@ -16,7 +16,7 @@ use Rattle.std.specs.Float.Ieee.Scale.{finite}
 use Rattle.lists.specs.Choice.{pick, and_then}
 use Rattle.lists.specs.ChoiceLaws.{pick_each, and_left, and_right, and_both, or_cases, then_zero, not_refused}
 use Rattle.lists.specs.Count.{every}
-use Rattle.lists.specs.CountLaws.{every_at, every_all, every_same}
+use Rattle.lists.specs.CountLaws.{every_at, every_all}
 use Rattle.refusal.specs.Numbers.{PLAN, LENGTH, REGISTER, LABEL, COORDINATE}
 use Rattle.dispersal.specs.Register.{top, mask_ok, settings_ok}
 use Rattle.dispersal.specs.RegisterLaws.{after_none, after_more, after_ok}
@@ -27,12 +27,12 @@ use Rattle.symbols.specs.LabelLaws.{length_octet_labels, octet_labels_below}
 use Rattle.symbols.specs.CallLaws.{labels_fit_yes}
 use Rattle.points.specs.declared.Point.{Point}
 use Rattle.points.specs.declared.PointAnswer.TheVariants.{At, Refused}
-use Rattle.points.specs.Points.{quarter_turn, half_turn, lent_point, bpsk, shifted, point_of, arranged_width, arranged_of, in_phase_of, quadrature_of, used_ok}
+use Rattle.points.specs.Points.{quarter_turn, half_turn, lent_point, bpsk, shifted, point_of, arranged_width, arranged_of, used_ok}
 use Rattle.points.specs.PointLaws.{length_in_phase, length_quadrature, in_phase_at, quadrature_at}
 use Rattle.points.specs.AnswerLaws.{point_answered, refusal_answered, values_answered}
 use Rattle.points.specs.Numbers.{symbol_ok, lent_ok, lent_number, mapped_number, room_ok, used_number, point_number, points_number, step_answer}
 use Rattle.points.specs.NumberLaws.{Lent, lent, and_true}
-use Rattle.demands.specs.PointRequests.{OneAnswer, AnswerByValue, SymbolsTurned, ArrangedTurned, ArrangedStepped, EntryOrNegation, CoordinatesLent, SignsTurned, CoordinatesExact, Finite, PointsFinite, TurnsBack, InOrder, PointsRefused, SameUsed, Early, UnusedUnseen, LabelsTaken, RunOneByOne}
+use Rattle.demands.specs.PointRequests.{OneAnswer, AnswerByValue, SymbolsTurned, ArrangedTurned, ArrangedStepped, EntryOrNegation, CoordinatesLent, SignsTurned, CoordinatesExact, Finite, PointsFinite, TurnsBack, InOrder, PointsRefused, UnusedUnseen, LabelsTaken, RunOneByOne}
 
 pub one_answer : OneAnswer
 one_answer n p (At r) a =
@@ -189,76 +189,9 @@ points_refused =
       symbol_any = λ m symbol ins quads d. rw (ne_eqb m 1 d);
     }
 
--- two numbers that are equal where they are early are so behind a test
-before_last : (a x y : ℕ) → (Early x → x ≡ y) → Early (and_then a x) → and_then a x ≡ and_then a y
-before_last zero x y h e = h e
-before_last (suc a) x y h e = rw (ne_eqb (suc a) 0 (λ z. omega arith))
-
--- and so of the entries, which are tested last
-entries_unseen : (a b : ℕ) (t u : Bool) → Early (and_then a (and_then b (pick t 0 COORDINATE))) → and_then a (and_then b (pick t 0 COORDINATE)) ≡ and_then a (and_then b (pick u 0 COORDINATE))
-entries_unseen a b t u = before_last a _ _ (before_last b _ _ (by_test t))
-  where
-    by_test : (t : Bool) → Early (pick t 0 COORDINATE) → pick t 0 COORDINATE ≡ pick u 0 COORDINATE
-    by_test true e = absurd (e.refused refl)
-    by_test false e = absurd (e.not_last refl)
-
-module _ (ins quads ins' quads' : List Float) where
-  mapped_unseen : (register : Bool) (m label symbol : ℕ) → SameUsed (label ∷ []) ins quads ins' quads' → mapped_number register m label symbol ins quads ≡ mapped_number register m label symbol ins' quads'
-  unfolding mapped_number used_ok
-  mapped_unseen register m label symbol s = rw (s.i_long, s.q_long, s.i 0 (omega arith), s.q 0 (omega arith))
-
-  mapped_early : (register : Bool) (m label symbol : ℕ) → SameUsed [] ins quads ins' quads' → Early (mapped_number register m label symbol ins quads)
-      → mapped_number register m label symbol ins quads ≡ mapped_number register m label symbol ins' quads'
-  unfolding mapped_number
-  mapped_early register m label symbol s e =
-      entries_unseen (lent_number m register (lent_ok m symbol (length ins) (length quads))) (pick (ltb label (2 ^ m)) 0 LABEL) (used_ok ins quads label) (used_ok ins' quads' label) e
-      ∙ rw (s.i_long, s.q_long)
-
-  point_unseen : (m label symbol : ℕ) → get_or ins label nan ≡ get_or ins' label nan → get_or quads label nan ≡ get_or quads' label nan → point_of m symbol ins quads label ≡ point_of m symbol ins' quads' label
-  unfolding point_of
-  point_unseen m label symbol i q = rw (i, q)
-
-  run_unseen : (m symbol : ℕ) (labels : List ℕ) (i q : ℕ) → SameUsed labels ins quads ins' quads' → points_number m symbol labels ins quads i q ≡ points_number m symbol labels ins' quads' i q
-  unfolding points_number used_number used_ok
-  run_unseen m symbol labels i q s =
-      rw (s.i_long, s.q_long, every_same (length labels) (λ r. used_ok ins quads (get_or labels r 0)) (λ r. used_ok ins' quads' (get_or labels r 0)) (λ r b. rw (s.i r b, s.q r b)))
-
-  run_early : (m symbol : ℕ) (labels : List ℕ) (i q : ℕ) → SameUsed [] ins quads ins' quads' → Early (points_number m symbol labels ins quads i q)
-      → points_number m symbol labels ins quads i q ≡ points_number m symbol labels ins' quads' i q
-  unfolding points_number used_number
-  run_early m symbol labels i q s e =
-      entries_unseen (lent_number m true (lent_ok m symbol (length ins) (length quads) && room_ok (length labels) i q)) (label_number m labels) (every (length labels) (λ r. used_ok ins quads (get_or labels r 0))) (every (length labels) (λ r. used_ok ins' quads' (get_or labels r 0))) e
-      ∙ rw (s.i_long, s.q_long)
-
-  module _ (m symbol : ℕ) (labels : List ℕ) (s : SameUsed labels ins quads ins' quads') where
-    each_unseen : (r : ℕ) → r < length labels → point_of m (symbol + r) ins quads (get_or labels r 0) ≡ point_of m (symbol + r) ins' quads' (get_or labels r 0)
-    each_unseen r b = point_unseen m (get_or labels r 0) (symbol + r) (s.i r b) (s.q r b)
-
-    in_phase_unseen : in_phase_of m symbol labels ins quads ≡ in_phase_of m symbol labels ins' quads'
-    in_phase_unseen =
-        let l = length_in_phase m symbol labels ins quads in
-        ext_get_or nan _ _ (l ∙ sym (length_in_phase m symbol labels ins' quads'))
-        (λ r h. let b : r < length labels = omega (arith, l) in
-        in_phase_at m symbol labels ins quads r b ∙ ap (λ (p : Point). p.i) (each_unseen r b) ∙ sym (in_phase_at m symbol labels ins' quads' r b))
-
-    quadrature_unseen : quadrature_of m symbol labels ins quads ≡ quadrature_of m symbol labels ins' quads'
-    quadrature_unseen =
-        let l = length_quadrature m symbol labels ins quads in
-        ext_get_or nan _ _ (l ∙ sym (length_quadrature m symbol labels ins' quads'))
-        (λ r h. let b : r < length labels = omega (arith, l) in
-        quadrature_at m symbol labels ins quads r b ∙ ap (λ (p : Point). p.q) (each_unseen r b) ∙ sym (quadrature_at m symbol labels ins' quads' r b))
-
-  pub unused_unseen : UnusedUnseen ins quads ins' quads'
-  unused_unseen =
-      record {
-        point = λ m label symbol s. (mapped_unseen true m label symbol s, point_unseen m label symbol (s.i 0 (omega arith)) (s.q 0 (omega arith)));
-        arranged = λ m label symbol mask register s.
-            (mapped_unseen (settings_ok arranged_width mask register) m label symbol s, ap (arranged_of register) (point_unseen m label symbol (s.i 0 (omega arith)) (s.q 0 (omega arith))));
-        run = λ m symbol labels i q s. (run_unseen m symbol labels i q s, (in_phase_unseen m symbol labels s, quadrature_unseen m symbol labels s));
-        point_early = λ m label symbol. mapped_early true m label symbol;
-        arranged_early = λ m label symbol mask register. mapped_early (settings_ok arranged_width mask register) m label symbol;
-        run_early = run_early;
-      }
+pub unused_unseen : UnusedUnseen
+unfolding mapped_number used_ok point_of
+unused_unseen m label symbol ins quads ins' quads' k l i q = (rw (k, l, i, q), rw (i, q))
 
 -- a later symbol has a number where the first has
 later : (m symbol r : ℕ) → symbol_ok m symbol ≡ true → symbol_ok m (symbol + r) ≡ true

@@ -6,12 +6,16 @@ use Rattle.bits.specs.Digits.{number}
 use Rattle.bits.specs.Octets.{bits_of}
 use Rattle.plan.specs.declared.Plan.{Plan}
 use Rattle.plan.specs.declared.FrameState.{FrameState}
+use Rattle.packets.specs.Packets.{unpack_number}
+use Rattle.symbols.specs.Labels.{slot_of_labels_number, block_of_labels_number}
 use Rattle.codeword.specs.Words.{word_of}
 use Rattle.slot.specs.Slots.{stuff_bits, slot_shape}
 use Rattle.slot.specs.Reading.{no_stuff, stuff_ones}
-use Rattle.slot.specs.Calls.{rows_at, slot_number, next_state, read_answer, read_area, Reads}
-use Rattle.frame.specs.Frames.{answers_of, stuffs_of}
-use Rattle.demands.specs.CallStatements.{EveryCall}
+use Rattle.slot.specs.Calls.{rows_at, slot_number, next_state, read_answer, read_area, check_number, Reads}
+use Rattle.tmcc.specs.Calls.{read_number as readBlockNumber}
+use Rattle.frame.specs.Frames.{answers_of, stuffs_of, read_frame_number}
+use Rattle.tlv.specs.Calls.{read_number as readTlvNumber}
+use Rattle.settings.specs.Cards.{read_number as readSettingsNumber}
 
 -- "with sound checks": the slot of header and data at a state's place, as coding makes it but for six stuff bits e
 abbrev pub slot_with : FrameState → List ℕ → List ℕ → List ℕ → List ℕ
@@ -48,9 +52,19 @@ FrameStuffAnswered =
     → (length (stuffs_of p ts mask start frame) ≡ 120)
     × ((k : ℕ) → k < 120 → StuffAnswered (get_or (answers_of p ts mask start frame) k 0) (get_or (stuffs_of p ts mask start frame) k 0))
 
--- "Number 10 never occurs again": no call answers it, and no answer octet of a frame is it
+-- "Number 10 never occurs again": no call that reads or checks answers it
 abbrev pub NotTen : ℕ → Type 0
 NotTen n = n ≡ 10 → ⊥
 
-abbrev pub NeverTen : Type 0
-NeverTen = EveryCall (λ ns n. NotTen n)
+pub record NeverTen : Type 0 where
+  pub slot : (s : FrameState) (t coded source : List ℕ) → NotTen (read_answer s t coded source).number
+  pub frame : (p : Plan) (mask start : ℕ) (ts : List ℕ) (source frame answers stuff positions : ℕ)
+      → NotTen (read_frame_number p mask start ts source frame answers stuff positions)
+  pub answer : (p : Plan) (ts : List ℕ) (mask start : ℕ) (frame : List ℕ) (k : ℕ) → k < 120 → NotTen (get_or (answers_of p ts mask start frame) k 0)
+  pub parity : (rate : ℕ) (t coded : List ℕ) → NotTen (check_number rate t coded)
+  pub block : (mask start : ℕ) (t block source : List ℕ) → NotTen (readBlockNumber mask start t block source)
+  pub unpacking : (rate : ℕ) (octets : List ℕ) (room : ℕ) → NotTen (unpack_number rate octets room)
+  pub slot_labels : (m rate : ℕ) (labels : List ℕ) (room : ℕ) → NotTen (slot_of_labels_number m rate labels room)
+  pub block_labels_law : (labels : List ℕ) (room : ℕ) → NotTen (block_of_labels_number labels room)
+  pub tlv : (rate : ℕ) (slots begins lost : List ℕ) (first area : ℕ) → NotTen (readTlvNumber rate slots begins lost first area)
+  pub settings : (card : List ℕ) (n : ℕ) → NotTen (readSettingsNumber card n)

@@ -1,10 +1,10 @@
 -- Proofs of the statements on TLV packets (document 02, N2).
-use Rattle.std.specs.Prelude.{◌≡◌, refl, Bool, ◌&&◌, List, ◌++◌, ℕ, ◌+◌, ◌-◌, ◌*◌, ◌/◌, ◌<◌, ◌≤◌, eqb, ltb, length, get_or}
+use Rattle.std.specs.Prelude.{◌≡◌, refl, Bool, ◌&&◌, List, ◌++◌, ℕ, ◌+◌, ◌-◌, ◌*◌, ◌/◌, ◌<◌, eqb, ltb, length, get_or}
 use Rattle.std.proofs.Common.{sym, ap, ap₂, ◌∙◌, mul-add, arith, length-append}
 use Rattle.std.proofs.Math.Bool.{true, false}
 use Rattle.std.proofs.Math.Nat.{mul-div_cancel_left}
 use Rattle.std.proofs.Math.Decide.{ℕ_discrete}
-use borrow.Author.Tests.{lt-ltb, eq-eqb}
+use borrow.Author.Tests.{eq-eqb}
 use Rattle.lists.specs.ChoiceLaws.{or_true}
 use Rattle.lists.specs.Choice.{pick}
 use Rattle.lists.specs.Count.{first, table}
@@ -14,20 +14,20 @@ use Rattle.tlv.specs.Packets.{octets, packets_ok}
 use Rattle.tlv.specs.Fill.{none, filled, reports, taken_after, owed_after, report, stream_at, stream_begins, sent_at, sent_begins}
 use Rattle.tlv.specs.FillLaws.{length_reports, owed_small, owed_behind, taken_within, OneCall, two_calls}
 use Rattle.tlv.specs.Read.{lost_slot, Reading, read, start}
-use Rattle.tlv.specs.Sent.{sent_packets, sent_from, read_from, sent_cut}
+use Rattle.tlv.specs.Sent.{sent_packets, sent_cut}
 use Rattle.tlv.specs.Calls.{slots_of, slots_ok, taken_ok, fill_lent, fill_number, fill_answer, fill_slots, fill_begins, place_ok, read_ok, read_number, read_answer, read_packets, reading_of}
-use Rattle.tlv.specs.CallLaws.{Slots, slots_are, FillReady, fill_ready, fill_accepted, ReadReady, read_ready, read_accepted, reports_inside}
-use Rattle.tlv.specs.TripLaws.{round_trip, from_reported, plain_all}
+use Rattle.tlv.specs.CallLaws.{Slots, slots_are, FillReady, fill_ready, fill_accepted, ReadReady, read_ready, read_accepted, reports_inside, all_hold}
+use Rattle.tlv.specs.TripLaws.{round_trip, plain_all}
 use Rattle.tlv.specs.SlotLaws.{read_same}
 use Rattle.tlv.specs.LostLaws.{start_heard, read_heard}
-use Rattle.demands.specs.TlvRequests.{FillRefused, ReadRefused, TlvRefused, OneFilling, FilledInTwo, Monitored, Arrived, FilledRead, AllArrive, LostUnseen, WorkedFillers}
+use Rattle.demands.specs.Requests.{FillRefused, ReadRefused, TlvRefused, OneFilling, FilledInTwo, Monitored, Arrived, FilledRead, AllArrive, LostUnseen, WorkedFillers}
 
 -- the numbers in their order
 module _ (rate : ℕ) (packets : List ℕ) (taken owed : ℕ) (slots begins : List ℕ) where
   abbrev lent : Bool
   lent = slots_ok (data_octets_of rate) (length slots) (length begins) && taken_ok (length packets) taken owed
 
-  pub fill_order : (a b d : Bool) → rate_ok rate ≡ a → lent ≡ b → packets_ok packets ≡ d
+  fill_order : (a b d : Bool) → rate_ok rate ≡ a → lent ≡ b → packets_ok packets ≡ d
       → fill_number rate packets taken owed slots begins ≡ pick a (pick b (pick d 0 PACKET) LENGTH) PLAN
   unfolding fill_number fill_lent
   fill_order false b d x y z = rw x
@@ -35,13 +35,12 @@ module _ (rate : ℕ) (packets : List ℕ) (taken owed : ℕ) (slots begins : Li
   fill_order true true false x y z = rw (x, y, z)
   fill_order true true true x y z = rw (x, y, z)
 
-  pub fill_refused : FillRefused rate packets taken owed slots begins
+  fill_refused : FillRefused rate packets taken owed slots begins
   fill_refused =
       record {
         unknown = λ x. fill_order false _ _ x refl refl;
         lent = λ x y. fill_order true false _ x y refl;
         packet = λ x y z. fill_order true true false x y z;
-        none = λ x y z. fill_order true true true x y z;
       }
 
 module _ (rate : ℕ) (slots begins lost : List ℕ) (f area : ℕ) where
@@ -63,7 +62,6 @@ module _ (rate : ℕ) (slots begins lost : List ℕ) (f area : ℕ) where
         unknown = λ x. read_order false _ x refl;
         lent = λ x y. read_order true false x y;
         never = λ e. no_packet (rate_ok rate) (read_ok (data_octets_of rate) (length slots) begins lost f area) (sym (read_order _ _ refl refl) ∙ e);
-        none = λ x y. read_order true true x y;
       }
 
 pub tlv_refused : TlvRefused
@@ -71,15 +69,15 @@ tlv_refused = (fill_refused, read_refused)
 
 -- what an accepted filling leaves
 module _ (rate : ℕ) (packets : List ℕ) (taken owed : ℕ) (slots begins : List ℕ) (h : fill_number rate packets taken owed slots begins ≡ 0) where
-  pub slots_filled : fill_slots rate packets taken owed slots begins ≡ filled packets taken owed (length slots)
+  slots_filled : fill_slots rate packets taken owed slots begins ≡ filled packets taken owed (length slots)
   unfolding fill_slots
   slots_filled = rw (eq-eqb _ 0 h)
 
-  pub begins_filled : fill_begins rate packets taken owed slots begins ≡ reports (data_octets_of rate) (slots_of rate slots) packets taken owed
+  begins_filled : fill_begins rate packets taken owed slots begins ≡ reports (data_octets_of rate) (slots_of rate slots) packets taken owed
   unfolding fill_begins
   begins_filled = rw (eq-eqb _ 0 h)
 
-  pub numbers_filled : fill_answer rate packets taken owed slots begins
+  numbers_filled : fill_answer rate packets taken owed slots begins
       ≡ record { number = 0; taken = taken_after packets taken owed (length slots); owed = owed_after packets taken owed (length slots) }
   unfolding fill_answer
   numbers_filled = rw (eq-eqb _ 0 h)
@@ -93,16 +91,16 @@ module _ (rate : ℕ) (packets : List ℕ) (taken owed : ℕ) (slots begins furt
   pos : 0 < data_octets_of rate
   pos = omega (arith, ready.octets.low)
 
-  pub more : Slots (data_octets_of rate) (length further) (length told)
+  more : Slots (data_octets_of rate) (length further) (length told)
   more = slots_are (data_octets_of rate) (length further) (length told) pos k
 
-  pub both_long : length (slots ++ further) ≡ data_octets_of rate * (slots_of rate slots + slots_of rate further)
+  both_long : length (slots ++ further) ≡ data_octets_of rate * (slots_of rate slots + slots_of rate further)
   both_long = length-append slots further ∙ ap₂ (λ (x y : ℕ). x + y) ready.lent.whole more.whole ∙ sym (mul-add (data_octets_of rate) (slots_of rate slots) (slots_of rate further))
 
-  pub both_slots : slots_of rate (slots ++ further) ≡ slots_of rate slots + slots_of rate further
+  both_slots : slots_of rate (slots ++ further) ≡ slots_of rate slots + slots_of rate further
   both_slots = ap (λ (x : ℕ). x / data_octets_of rate) both_long ∙ mul-div_cancel_left (slots_of rate slots + slots_of rate further) pos
 
-  pub joined_slots : Slots (data_octets_of rate) (length (slots ++ further)) (length (begins ++ told))
+  joined_slots : Slots (data_octets_of rate) (length (slots ++ further)) (length (begins ++ told))
   joined_slots =
       record {
         some = rw both_slots (omega (arith, ready.lent.some));
@@ -200,12 +198,18 @@ module _ (rate : ℕ) (packets : List ℕ) (taken owed : ℕ) (slots begins lost
   told_long : length told ≡ length begins
   told_long = length_reports (data_octets_of rate) (slots_of rate slots) packets taken owed ∙ sym filling.lent.reports
 
+  from : (f ≡ none → ⊥) → f ≡ get_or told 0 0
+  from n = m.from n ∙ ap (λ (xs : List ℕ). get_or xs 0 0) told_are
+
   place : place_ok (data_octets_of rate) f ≡ true
   place = go (ℕ_discrete f none)
     where
       go : Dec (f ≡ none) → place_ok (data_octets_of rate) f ≡ true
       go (yes e) = or_true (ltb f (data_octets_of rate)) (eqb f none) (eq-eqb f none e)
-      go (no n) = rw (lt-ltb f (data_octets_of rate) (m.from n).0)
+      go (no n) =
+          ap (place_ok (data_octets_of rate)) (from n)
+          ∙ all_hold (place_ok (data_octets_of rate)) told (reports_inside (data_octets_of rate) (slots_of rate slots) packets taken owed) 0
+          (omega (arith, told_long, filling.lent.some, filling.lent.reports))
 
   taken_in : ReadReady rate received told lost f (length area)
   taken_in =
@@ -232,12 +236,9 @@ module _ (rate : ℕ) (packets : List ℕ) (taken owed : ℕ) (slots begins lost
   abbrev arrives : Reading
   arrives =
       record {
-        written = sent_from (data_octets_of rate) (slots_of rate slots) lost packets taken owed (read_from f);
+        written = sent_packets (data_octets_of rate) (slots_of rate slots) lost packets taken owed;
         unfinished = sent_cut (data_octets_of rate) (slots_of rate slots) lost packets taken owed;
       }
-
-  short : owed ≤ data_octets_of rate * slots_of rate slots
-  short = omega (arith, filling.few, filling.lent.whole, filling.lent.least, filling.octets.low)
 
   reading_at : (T n : ℕ) → T ≡ data_octets_of rate * slots_of rate slots → n ≡ slots_of rate slots
       → read (data_octets_of rate) n lost told (octets received) T (start (data_octets_of rate) n lost told f) ≡ arrives
@@ -246,27 +247,17 @@ module _ (rate : ℕ) (packets : List ℕ) (taken owed : ℕ) (slots begins lost
       let high = filling.octets.high in
       rw (e, d)
       (round_trip (data_octets_of rate) (slots_of rate slots) (omega arith) (omega arith) filling.lent.some packets taken owed filling.right
-      filling.within short lost received agree f m.from)
+      filling.within (omega (arith, filling.few, filling.lent.whole, filling.lent.least)) lost received agree f from)
 
   reading : reading_of rate received told lost f ≡ arrives
   unfolding reading_of
   reading = reading_at (length received) (slots_of rate received) (m.long ∙ filling.lent.whole) (ap (λ (x : ℕ). x / data_octets_of rate) m.long)
 
-  -- before slot 0's report nothing begins
-  all : ((f ≡ none → ⊥) → f ≡ get_or (fill_begins rate packets taken owed slots begins) 0 0)
-      → sent_from (data_octets_of rate) (slots_of rate slots) lost packets taken owed (read_from f)
-      ≡ sent_packets (data_octets_of rate) (slots_of rate slots) lost packets taken owed
-  all h =
-      let low = filling.octets.low in
-      let high = filling.octets.high in
-      from_reported (data_octets_of rate) (slots_of rate slots) (omega arith) (omega arith) filling.lent.some packets taken owed filling.right
-      filling.within short lost f (λ n. h n ∙ ap (λ (xs : List ℕ). get_or xs 0 0) told_are)
-
   arrived : Arrived rate packets taken owed slots begins lost received f area
   unfolding read_answer read_packets
   arrived =
       let e = eq-eqb (read_number rate received told lost f (length area)) 0 accepted in
-      record { answer = rw (told_are, e, reading); packets_area = rw (told_are, e, reading); all = all }
+      record { answer = rw (told_are, e, reading); packets_area = rw (told_are, e, reading) }
 
 pub filled_read : FilledRead
 filled_read = arrived

@@ -26,10 +26,6 @@ added_then s₀ s s' f g h a b e = record {
   at = λ j l. rw (e j) (sum_then (get_or s j 0) (get_or s₀ j 0) (get_or s' j 0) (f j) (g j) (a.at j l) (b.at j (omega (arith, a.same))));
 }
 
--- what is added goes by its value at each place
-pub added_as : (s₀ s : List ℕ) (f g : ℕ → ℕ) → Added s₀ s f → ((j : ℕ) → j < length s₀ → g j ≡ f j) → Added s₀ s g
-added_as s₀ s f g a e = record { same = a.same; at = λ j l. rw (e j l) (a.at j l) }
-
 -- in the columns, the sum of a position has added to it what the position is reached by
 pub added_at : (q : ℕ) (s₀ s : List ℕ) (f : ℕ → ℕ) → length s₀ ≡ 374 * q → Added s₀ s (λ n. f (across q 374 n))
     → (p : ℕ) → p < 374 * q → sum_at q s p % 2 ≡ (sum_at q s₀ p + f p) % 2

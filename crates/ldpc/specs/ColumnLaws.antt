@@ -1,15 +1,16 @@
 -- Laws of sums in columns: where a position stands, what one address adds to its column and to the others.
-use Rattle.std.specs.Prelude.{◌≡◌, List, ◌++◌, ℕ, ◌+◌, ◌*◌, ◌-◌, ◌%◌, ◌/◌, ◌<◌, ◌≤◌, take}
+use Rattle.std.specs.Prelude.{◌≡◌, List, ◌++◌, ℕ, ◌+◌, ◌*◌, ◌-◌, ◌%◌, ◌/◌, ◌<◌, ◌≤◌, take, drop}
 use Rattle.std.proofs.Math.Path.{refl, ap}
-use Rattle.std.proofs.Common.{sym, ap₂, ◌∙◌, mod-lt, mod-eq_of_lt, div-lt_iff_lt-mul, mul-add, mul-le-mul_left, arith, eq-eqb, ne_eqb, length-take-le, get_or-append-add}
+use Rattle.std.proofs.Common.{sym, ap₂, ◌∙◌, mod-lt, mod-eq_of_lt, div-lt_iff_lt-mul, mul-add, mul-le-mul_left, arith, eq-eqb, ne_eqb, length-drop, length-take-le, get_or-append-add}
 use Rattle.std.proofs.Math.Nat.{div-eq_of_lt, mul-add-mod_self_left, mul-add-div, div-add-mod}
+use Rattle.std.proofs.Math.Decide.{dec_lt}
 use Rattle.std.proofs.Math.ListN.{length, get_or, get_or-append}
 use Rattle.std.proofs.Math.Seq.{get_or-take, get_or-drop}
 use Rattle.lists.specs.CountLaws.{sum_each, sum_only}
 use Rattle.lists.specs.Parts.{put}
 use Rattle.ldpc.specs.Stepping.{stepped, address_times}
 use Rattle.ldpc.specs.StepLaws.{stepped_mod, turn_below, stepped_column}
-use Rattle.ldpc.specs.Columns.{across}
+use Rattle.ldpc.specs.Columns.{across, turned}
 
 -- the number counted along the rows of what stands in place j of column c
 pub across_at : (a b c j : ℕ) → j < b → across a b (b * c + j) ≡ a * j + c
@@ -72,6 +73,17 @@ module _ (a : ℕ) (ys xs : List ℕ) (h : a + length ys ≤ length xs) where
       ∙ get_or-drop (a + length ys) xs k 0
       ∙ ap (λ (i : ℕ). get_or xs i 0) (omega arith)
 
+-- a bit of a turned row, on both sides of the turn
+module _ (n : ℕ) (row : List ℕ) (l : length row ≡ 374) (h : n ≤ 374) where
+  end : length (drop (374 - n) row) ≡ n
+  end = length-drop (374 - n) row ∙ omega arith
+
+  turned_before : (j : ℕ) → j < n → get_or (turned n row) j 0 ≡ get_or row (374 - n + j) 0
+  turned_before j k = get_or-append (drop (374 - n) row) _ 0 j (omega (arith, end)) ∙ get_or-drop (374 - n) row j 0
+
+  turned_from : (k : ℕ) → k < 374 - n → get_or (turned n row) (n + k) 0 ≡ get_or row k 0
+  turned_from k j = get_or_behind (drop (374 - n) row) _ n k end ∙ get_or-take (374 - n) row k 0 j
+
 -- a position that no bit of a row is stepped to has nothing added through the address
 pub address_nowhere : (q a : ℕ) (row : List ℕ) (j : ℕ) → ((n : ℕ) → n < 374 → stepped q (374 * q) a n ≡ j → ⊥) → address_times q row a j ≡ 0
 unfolding address_times
@@ -97,14 +109,21 @@ module _ (q a : ℕ) (z : 0 < q) (h : a < 374 * q) where
   pub address_stepped : (row : List ℕ) (n : ℕ) → n < 374 → address_times q row a (stepped q (374 * q) a n) ≡ get_or row n 0
   address_stepped row n l = rw (stepped_column q a z h n) (address_bit row (stepped 1 374 (a / q) n) n l refl)
 
-  -- what the address adds to its column: from its own place on the row's first bits, and before it the last ones
-  pub address_from : (row : List ℕ) (j : ℕ) → j < 374 → a / q ≤ j → address_times q row a (q * j + a % q) ≡ get_or row (j - a / q) 0
-  address_from row j k b = address_bit row j (j - a / q) (omega arith) (place (j - a / q) ∙ omega arith)
-
-  pub address_before : (row : List ℕ) (j : ℕ) → j < a / q → address_times q row a (q * j + a % q) ≡ get_or row (374 - a / q + j) 0
-  address_before row j b =
-      let t = turn_below q a z h in
-      address_bit row j (374 - a / q + j) (omega arith) (place (374 - a / q + j) ∙ omega arith)
+  -- what the address adds to its column
+  pub address_there : (row : List ℕ) (j : ℕ) → length row ≡ 374 → j < 374 → address_times q row a (q * j + a % q) ≡ get_or (turned (a / q) row) j 0
+  address_there row j l k = go (dec_lt j (a / q))
+    where
+      go : Dec (j < a / q) → address_times q row a (q * j + a % q) ≡ get_or (turned (a / q) row) j 0
+      go (yes b) =
+          let t = turn_below q a z h in
+          address_bit row j (374 - a / q + j) (omega arith) (place (374 - a / q + j) ∙ omega arith)
+          ∙ sym (turned_before (a / q) row l (omega arith) j b)
+      go (no b) =
+          let t = turn_below q a z h in
+          let e : a / q + (j - a / q) ≡ j = omega arith in
+          address_bit row j (j - a / q) (omega arith) (place (j - a / q) ∙ omega arith)
+          ∙ sym (turned_from (a / q) row l (omega arith) (j - a / q) (omega arith))
+          ∙ ap (λ (i : ℕ). get_or (turned (a / q) row) i 0) e
 
   -- and nothing to the others
   pub address_elsewhere : (row : List ℕ) (j c : ℕ) → c < q → (c ≡ a % q → ⊥) → address_times q row a (q * j + c) ≡ 0

@@ -1,7 +1,7 @@
 -- Laws of stepping: the position stepped to is document 01's, and in the columns it is the place behind.
 use Rattle.std.specs.Prelude.{◌≡◌, Bool}
 use Rattle.std.proofs.Math.Path.{sym, ap}
-use Rattle.std.proofs.Common.{◌∙◌, mod-lt, mod-eq_of_lt, div-lt_iff_lt-mul, mul-add, mul_comm, mul-le-mul_left, arith, le-leb}
+use Rattle.std.proofs.Common.{◌∙◌, mod-lt, mod-eq_of_lt, div-lt_iff_lt-mul, mul-add, mul-le-mul_left, arith, le-leb}
 use Prim.Native.Nat.{ℕ, zero, suc, ◌+◌, ◌*◌, ◌-◌, ◌%◌, ◌/◌, ◌<◌, ◌≤◌}
 use Rattle.std.proofs.Math.Nat.{mul-add-mod_self_left, div-add-mod}
 use Rattle.std.proofs.Math.Decide.{dec_lt}
@@ -10,10 +10,10 @@ use Rattle.lists.specs.Choice.{pick}
 use Rattle.ldpc.specs.Stepping.{step_on, stepped}
 
 -- a step, by whether M is reached
-pub step_on_reached : (q m p : ℕ) → m ≤ p + q → step_on q m p ≡ p + q - m
+step_on_reached : (q m p : ℕ) → m ≤ p + q → step_on q m p ≡ p + q - m
 step_on_reached q m p h = ap (λ (t : Bool). pick t (p + q - m) (p + q)) (le-leb m (p + q) h)
 
-pub step_on_less : (q m p : ℕ) → p + q < m → step_on q m p ≡ p + q
+step_on_less : (q m p : ℕ) → p + q < m → step_on q m p ≡ p + q
 step_on_less q m p h = ap (λ (t : Bool). pick t (p + q - m) (p + q)) (lt-leb m (p + q) h)
 
 -- a step by no more than m is a remainder
@@ -40,11 +40,6 @@ stepped_mod q m a l h (suc n) =
     ∙ step_on_mod q m (x % m) l (mod-lt x z)
     ∙ sym (ap (λ (k : ℕ). k % m) e ∙ mul-add-mod_self_left m (x / m) (x % m + q))
 
--- steps that come to m at the most are one step: m is subtracted once
-pub stepped_once : (q m a n : ℕ) → q ≤ m → a < m → q * n ≤ m → stepped q m a n ≡ step_on (q * n) m a
-stepped_once q m a n l h k =
-    stepped_mod q m a l h n ∙ ap (λ (x : ℕ). (a + x) % m) (mul_comm n q) ∙ sym (step_on_mod (q * n) m a k h)
-
 -- where the bits of a row go through an address
 module _ (q a : ℕ) (z : 0 < q) (h : a < 374 * q) where
   pub turn_below : a / q < 374
@@ -70,11 +65,3 @@ module _ (q a : ℕ) (z : 0 < q) (h : a < 374 * q) where
   stepped_column (suc n) =
       let b : stepped 1 374 (a / q) n < 374 = rw (stepped_mod 1 374 (a / q) (omega arith) turn_below n) (omega arith) in
       ap (step_on q (374 * q)) (stepped_column n) ∙ column_step (stepped 1 374 (a / q) n) b
-
-  -- M is reached behind the last place of the column, and the position is then that of its first
-  pub column_first : stepped q (374 * q) a (374 - a / q) ≡ a % q
-  column_first =
-      let t = turn_below in
-      let n : a / q + (374 - a / q) * 1 ≡ 374 = omega arith in
-      let e : stepped 1 374 (a / q) (374 - a / q) ≡ 0 = stepped_mod 1 374 (a / q) (omega arith) t (374 - a / q) ∙ ap (λ (k : ℕ). k % 374) n in
-      stepped_column (374 - a / q) ∙ ap (λ (n : ℕ). q * n + a % q) e ∙ omega arith

@@ -1,6 +1,5 @@
 -- What the functions ask of their arguments.
-use Rattle.std.specs.Prelude.{◌≡◌, true, List, ℕ, ◌<◌, Float, length, get_or}
-use Rattle.points.specs.Points.{used_ok}
+use Rattle.std.specs.Prelude.{List, ℕ, ◌<◌, Float, length, get_or, ◌≡◌}
 
 -- a label with an entry in both lists
 pub record Listed (ins quads : List Float) (label : ℕ) : Type 0 where
@@ -11,13 +10,8 @@ pub record Listed (ins quads : List Float) (label : ℕ) : Type 0 where
 abbrev pub AllListed : List Float → List Float → List ℕ → Type 0
 AllListed ins quads labels = (r : ℕ) → r < length labels → Listed ins quads (get_or labels r 0)
 
--- labels whose entries are all finite
-abbrev pub AllUsed : List Float → List Float → List ℕ → Type 0
-AllUsed ins quads labels = (r : ℕ) → r < length labels → used_ok ins quads (get_or labels r 0) ≡ true
-
 -- and areas for their coordinates
 pub record Areas (labels : List ℕ) (ins quads is qs : List Float) : Type 0 where
   pub listed : AllListed ins quads labels
-  pub used : AllUsed ins quads labels
   pub i_long : length is ≡ length labels
   pub q_long : length qs ≡ length labels

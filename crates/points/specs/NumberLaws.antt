@@ -1,17 +1,14 @@
 -- Laws of the refusals: what a number 0 says of what is lent, and an unknown modulation.
-use Rattle.std.specs.Prelude.{◌≡◌, refl, Bool, true, false, ◌&&◌, List, ℕ, ◌^◌, ◌<◌, eqb, Float, length, get_or}
+use Rattle.std.specs.Prelude.{◌≡◌, refl, Bool, true, false, ◌&&◌, List, ℕ, ◌^◌, ◌<◌, eqb, Float, length}
 use Rattle.std.proofs.Common.{arith, eqb-true}
 use Rattle.lists.specs.Choice.{pick}
 use Rattle.lists.specs.ChoiceLaws.{and_left, and_right, then_zero, not_refused}
-use Rattle.lists.specs.Count.{every}
-use Rattle.lists.specs.CountLaws.{every_at, every_all}
-use Rattle.refusal.specs.Numbers.{PLAN, LENGTH, REGISTER, COORDINATE}
+use Rattle.refusal.specs.Numbers.{PLAN, LENGTH, REGISTER}
 use Rattle.plan.specs.Rates.{modulation_ok}
 use Rattle.symbols.specs.Labels.{label_number}
 use Rattle.symbols.specs.CallLaws.{labels_fit}
-use Rattle.points.specs.Needs.{Listed, AllListed, Areas}
-use Rattle.points.specs.Points.{used_ok}
-use Rattle.points.specs.Numbers.{symbol_ok, lent_ok, lent_number, room_ok, used_number, points_number}
+use Rattle.points.specs.Needs.{Listed, Areas}
+use Rattle.points.specs.Numbers.{symbol_ok, lent_ok, lent_number, room_ok, points_number}
 
 -- what is lent where the number is 0: a known modulation, both lists with an entry for each label, a symbol number, and room
 pub record Lent (m symbol ins quads : ℕ) (room : Bool) : Type 0 where
@@ -46,22 +43,15 @@ pub and_true : (b : Bool) → (b && true) ≡ b
 and_true true = refl
 and_true false = refl
 
--- where all entries are finite, those that labels use are
-pub all_finite : (labels : List ℕ) (ins quads : List Float) → AllListed ins quads labels → every (length ins) (used_ok ins quads) ≡ true → used_number labels ins quads ≡ 0
-unfolding used_number
-all_finite labels ins quads l h =
-    rw (every_all (length labels) (λ r. used_ok ins quads (get_or labels r 0)) (λ r b. every_at (length ins) (used_ok ins quads) h (get_or labels r 0) (l r b).in_phase))
-
--- a run of labels with number 0 fills areas of its length, and each label has its entries, which are finite
+-- a run of labels with number 0 fills areas of its length, and each label has its entries
 pub areas : (m symbol : ℕ) (labels : List ℕ) (ins quads is qs : List Float) → points_number m symbol labels ins quads (length is) (length qs) ≡ 0 → Areas labels ins quads is qs
-unfolding points_number room_ok used_number
+unfolding points_number room_ok
 areas m symbol labels ins quads is qs h =
     let a = then_zero (lent_number m true (lent_ok m symbol (length ins) (length quads) && room_ok (length labels) (length is) (length qs))) _ h in
     let b = then_zero (label_number m labels) _ a.1 in
     let l = lent m symbol (length ins) (length quads) true _ a.0 in
     record {
       listed = λ r p. listed l _ (labels_fit m labels b.0 r p);
-      used = every_at (length labels) _ (not_refused (every (length labels) (λ r. used_ok ins quads (get_or labels r 0))) COORDINATE (omega arith) b.1);
       i_long = eqb-true (length is) (length labels) (and_left (eqb (length is) (length labels)) _ l.fits);
       q_long = eqb-true (length qs) (length labels) (and_right (eqb (length is) (length labels)) _ l.fits);
     }

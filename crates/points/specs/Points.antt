@@ -42,7 +42,7 @@ arranged_width = 15
 unfoldable pub arranged_of : ℕ → Point → Point
 arranged_of register p = pick (eqb (top arranged_width register) 1) (half_turn p) p
 
--- the coordinates of a run of labels: the first is symbol number `symbol`, and the numbers go on from there as whole numbers
+-- the coordinates of a run of labels, the first of which is symbol number `symbol`: "Symbol numbers go on as whole numbers"
 unfoldable pub in_phase_of : ℕ → ℕ → List ℕ → List Float → List Float → List Float
 in_phase_of m symbol labels ins quads = table (length labels) (λ r. (point_of m (symbol + r) ins quads (get_or labels r 0)).i)
 

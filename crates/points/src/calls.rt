@@ -5,7 +5,7 @@ ghost use Rattle.points.specs.Points.{point_of, arranged_of};
 ghost use Rattle.points.specs.Answers.{Answers, turned_answer, as_values, point_values, PointsMade};
 ghost use Rattle.points.specs.Numbers.{mapped_number, point_number, arranged_number, step_answer};
 
-use crate::mapping::{answer_of, put_points};
+use crate::mapping::{point_of, put_points, used_ok};
 use crate::numbers::{lent_number, points_number};
 use crate::turns::half_turn;
 use crate::{PointAnswer, PointValues, StepAnswer};
@@ -39,7 +39,11 @@ fn mapped(
     if in_phase.len() <= at {
         return PointAnswer::Refused(refusal::LABEL);
     }
-    answer_of(modulation, symbol as usize, in_phase, quadrature, at)
+    if used_ok(in_phase, quadrature, at) {
+        let p = point_of(modulation, symbol as usize, in_phase, quadrature, at);
+        return PointAnswer::At(p);
+    }
+    PointAnswer::Refused(refusal::COORDINATE)
 }
 
 // The point of a label, or the refusal.

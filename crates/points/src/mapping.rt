@@ -1,13 +1,10 @@
-// The point of a label, or the refusal of its entries, and the points of a run of labels.
+// The point of a label, and of each label of a run.
 ghost use Rattle.std.specs.Prelude.{◌≡◌};
-ghost use Rattle.lists.specs.Choice.{pick};
-ghost use Rattle.refusal.specs.Numbers.{COORDINATE};
 ghost use Rattle.points.specs.Points.{shifted, point_of, used_ok, in_phase_of, quadrature_of};
-ghost use Rattle.points.specs.Answers.{Answers};
 ghost use Rattle.points.specs.Needs.{Listed, Areas};
 
+use crate::Point;
 use crate::turns::{is_finite, quarter_turn};
-use crate::{Point, PointAnswer};
 
 // The number of BPSK, whose even symbols are turned.
 pub const BPSK: u32 = 1;
@@ -25,7 +22,7 @@ fn shift(modulation: u32, symbol: usize, p: Point) -> Point
 }
 
 // The point of a label as symbol number `symbol`.
-fn point_of(
+pub fn point_of(
     modulation: u32,
     symbol: usize,
     in_phase: &[f32],
@@ -53,23 +50,6 @@ pub fn used_ok(in_phase: &[f32], quadrature: &[f32], label: usize) -> bool
     false
 }
 
-// The mapping: the point of a label as symbol number `symbol`, or the refusal of an entry that is not finite.
-pub fn answer_of(
-    modulation: u32,
-    symbol: usize,
-    in_phase: &[f32],
-    quadrature: &[f32],
-    label: usize,
-) -> PointAnswer
-    requires { Listed in_phase.now quadrature.now label }
-    ensures { Answers (pick (used_ok in_phase.now quadrature.now label) 0 COORDINATE) (point_of modulation symbol in_phase.now quadrature.now label) result }
-{
-    if used_ok(in_phase, quadrature, label) {
-        return PointAnswer::At(point_of(modulation, symbol, in_phase, quadrature, label));
-    }
-    PointAnswer::Refused(refusal::COORDINATE)
-}
-
 // Puts the coordinates of the labels' points, the first label as symbol number `symbol`.
 pub fn put_points(
     modulation: u32,
@@ -87,15 +67,9 @@ pub fn put_points(
     let mut at = symbol as usize;
     let mut r: usize = 0;
     while r < labels.len() {
-        let answer = answer_of(modulation, at, in_phase, quadrature, labels[r] as usize);
-        match answer {
-            PointAnswer::At(p) => {
-                i[r] = p.i;
-                q[r] = p.q;
-            }
-            // Not reached: the entries of all labels are finite.
-            PointAnswer::Refused(_) => return,
-        }
+        let p = point_of(modulation, at, in_phase, quadrature, labels[r] as usize);
+        i[r] = p.i;
+        q[r] = p.q;
         at += 1;
         r += 1;
     }

@@ -1,7 +1,5 @@
 // The refusals of the calls.
-ghost use Rattle.std.specs.Prelude.{◌≡◌, ◌&&◌, ◌≤◌, length};
-ghost use Rattle.lists.specs.Count.{every};
-ghost use Rattle.points.specs.Points.{used_ok};
+ghost use Rattle.std.specs.Prelude.{◌≡◌, ◌&&◌, ◌≤◌};
 ghost use Rattle.points.specs.Needs.{AllListed};
 ghost use Rattle.points.specs.Numbers.{symbol_ok, lent_ok, lent_number, room_ok, used_number, points_number};
 
@@ -57,22 +55,6 @@ pub fn lent_number(
     refusal::PLAN
 }
 
-// Whether all entries are finite, and so those that any label uses.
-fn entries_ok(in_phase: &[f32], quadrature: &[f32]) -> bool
-    requires { length in_phase.now ≡ length quadrature.now }
-    ensures { result ≡ every (length in_phase.now) (used_ok in_phase.now quadrature.now) }
-{
-    let mut k: usize = 0;
-    while k < in_phase.len() {
-        if used_ok(in_phase, quadrature, k) {
-            k += 1;
-        } else {
-            return false;
-        }
-    }
-    true
-}
-
 // The refusal of an entry that a label uses and that is not finite, or 0.
 fn used_number(labels: &[u8], in_phase: &[f32], quadrature: &[f32]) -> u8
     requires { AllListed in_phase.now quadrature.now labels.now }
@@ -126,10 +108,6 @@ pub fn points_number(
     let label = symbols::label_number(modulation as usize, labels);
     if label != 0 {
         return label;
-    }
-    // Where all entries are finite, as they mostly are, the labels need not be gone through again.
-    if entries_ok(in_phase, quadrature) {
-        return 0;
     }
     used_number(labels, in_phase, quadrature)
 }

@@ -78,7 +78,7 @@ registers_ok r = settings_ok slot_width r.slots.mask r.slots.start && settings_o
 unfoldable pub setting_number : Plan → Registers → ℕ
 setting_number p r = and_then (plan_number p) (pick (registers_ok r) 0 REGISTER)
 
--- "17 block (.. wrong mark, edition, sum or a filler not zero), tested .. before the plan and register checks"
+-- "17 block .., before the plan and register checks"
 unfoldable pub block_number : ℕ → List ℕ → ℕ
 block_number e block = and_then (pick (block_ok e block) 0 BLOCK) (setting_number (plan_in e block) (registers_in e block))
 

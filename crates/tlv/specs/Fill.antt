@@ -1,7 +1,7 @@
 -- Filling slots with TLV packets (document 02, N2): the stream that is cut into slots, what begins in it, and what is told.
-use Rattle.std.specs.Prelude.{Bool, not, ◌&&◌, List, [], ◌∷◌, ℕ, ◌+◌, ◌-◌, ◌*◌, ◌/◌, ◌%◌, min, eqb, ltb, length, get_or}
+use Rattle.std.specs.Prelude.{Bool, not, ◌&&◌, List, [], ◌∷◌, ℕ, ◌+◌, ◌-◌, ◌*◌, ◌%◌, min, eqb, ltb, length, get_or}
 use Rattle.lists.specs.Choice.{pick}
-use Rattle.lists.specs.Count.{first, table, joined}
+use Rattle.lists.specs.Count.{first, table}
 use Rattle.tlv.specs.Packets.{head_at}
 
 -- "empty null packets (7F FF 00 00) fill up"
@@ -53,11 +53,3 @@ lacking m = (4 - m % 4) % 4
 -- "and how many of a cut filler are owed"
 unfoldable pub owed_after : List ℕ → ℕ → ℕ → ℕ → ℕ
 owed_after packets taken owed T = lacking (taken + (T - owed) - length packets)
-
--- k empty null packets end to end
-unfoldable pub fillers : ℕ → List ℕ
-fillers k = joined k (λ _. filler)
-
--- how many fillers begin in T octets of slots, behind the packets
-unfoldable pub fillers_begun : List ℕ → ℕ → ℕ → ℕ → ℕ
-fillers_begun packets taken owed T = (taken + (T - owed) - length packets + 3) / 4

@@ -6,14 +6,11 @@ pub mod Calls
 pub mod CallLaws
 pub mod PacketLaws
 pub mod HeadLaws
-pub mod SplitLaws
 pub mod FillLaws
 pub mod Honest
-pub mod JoinLaws
 pub mod SlotLaws
 pub mod LostLaws
 pub mod ReadForward
 pub mod ReadLaws
 pub mod SentLaws
-pub mod NextLaws
 pub mod TripLaws

@@ -42,7 +42,7 @@ module _ (o u : ℕ → ℕ) (p q m : ℕ) (same : (k : ℕ) → k < m → o (p 
       let b : q + 4 + k ≡ q + (4 + k) = omega arith in
       rw (a, b, same (4 + k) (omega arith)))))
 
-pub head_before : (o : ℕ → ℕ) (f h j : ℕ) → j < h → head_from o f h j ≡ false
+head_before : (o : ℕ → ℕ) (f h j : ℕ) → j < h → head_from o f h j ≡ false
 unfolding head_from
 head_before o zero h j l = refl
 head_before o (suc f) h j l = rw (ne_eqb h j (omega arith), le-ltb h j (omega arith))
@@ -68,7 +68,7 @@ pub record Packet (o : ℕ → ℕ) (L h : ℕ) : Type 0 where
   pub body : body_ok o h ≡ true
 
 module _ (o : ℕ → ℕ) (L : ℕ) where
-  pub accept_first : (f h : ℕ) → h < L → packets_from o L (suc f) h ≡ true → Packet o L h × (packets_from o L f (h + size_at o h) ≡ true)
+  accept_first : (f h : ℕ) → h < L → packets_from o L (suc f) h ≡ true → Packet o L h × (packets_from o L f (h + size_at o h) ≡ true)
   unfolding packets_from
   accept_first f h l t =
       or_cases (eqb h L) _ t
@@ -93,7 +93,7 @@ module _ (o : ℕ → ℕ) (L : ℕ) where
       let k : h < j = ltb-true h j (and_left (ltb h j) _ r) in
       again (accept_first f h (omega arith) t).1 (and_right (ltb h j) _ r) l)
 
-  pub head_start : (f h : ℕ) → h < L → packets_from o L f h ≡ true → head_from o f h h ≡ true
+  head_start : (f h : ℕ) → h < L → packets_from o L f h ≡ true → head_from o f h h ≡ true
   unfolding packets_from head_from
   head_start zero h l t = absurd (let d : h ≡ L = eqb-true h L t in omega arith)
   head_start (suc f) h l t = rw (eq-eqb h h refl)

@@ -1,8 +1,8 @@
 -- Reading an honest stream with its reports gives what arrives of it.
-use Rattle.std.specs.Prelude.{◌≡◌, leb, get_or, length, drop}
-use Rattle.std.proofs.Math.Path.{refl}
-use Rattle.std.proofs.Common.{sym, ap, ◌∙◌}
-use mathlib.Core.Bool.{Bool, true, false, not, ◌&&◌, and-false}
+use Rattle.std.specs.Prelude.{◌≡◌, leb}
+use Rattle.std.proofs.Math.Path.{refl, sym, ap}
+use Rattle.std.proofs.Common.{◌∙◌}
+use mathlib.Core.Bool.{Bool, true, false, not, ◌&&◌}
 use mathlib.Core.List.{List, [], ◌++◌, append-nil, append_assoc}
 use Prim.Native.Nat.{ℕ, zero, suc, ◌+◌, ◌-◌, ◌*◌, ◌/◌, ◌<◌, ◌≤◌}
 use Rattle.std.proofs.Math.Nat.{mul-le-mul_left}
@@ -10,27 +10,23 @@ use Rattle.std.proofs.Math.Decide.{dec_lt}
 use native.Mathlib.Omega.{arith}
 use borrow.Author.Tests.{lt-ltb, le-ltb, ltb-true, ltb-false, le-leb, lt-leb, leb-true, eq-eqb, ne_eqb, eqb-true, eqb-false, not-false}
 use Rattle.std.proofs.Math.Dec.{eqb, ltb}
-use Rattle.std.proofs.Math.Seq.{drop-append_seam}
+use Rattle.std.proofs.Math.ListN.{get_or}
 use Rattle.lists.specs.Choice.{pick}
 use Rattle.lists.specs.ChoiceLaws.{and_left, and_right, clash}
 use Rattle.lists.specs.Count.{first, joined}
 use Rattle.lists.specs.CountLaws.{First, first_first, first_is, joined_none, joined_more, joined_quiet}
 use Rattle.tlv.specs.Packets.{size_at, empty_null, run}
 use Rattle.tlv.specs.PacketLaws.{size_least}
-use Rattle.tlv.specs.SplitLaws.{joined_from}
 use Rattle.tlv.specs.Fill.{report}
 use Rattle.tlv.specs.Honest.{Honest}
 use Rattle.tlv.specs.Read.{lost_slot, meets, reporting, on_from, Step, stop, on, whole, step, Reading, after, read, start}
-use Rattle.tlv.specs.Sent.{untouched, cut_at, read_from}
+use Rattle.tlv.specs.Sent.{untouched, cut_at}
 use Rattle.tlv.specs.SlotLaws.{slot_low, slot_high, slot_below, slot_from, met, Met, meets_lost}
 
 -- the octets of what begins at i, where it is whole, touches no lost slot and is no empty null
 unfoldable pub arrives : ℕ → ℕ → List ℕ → (ℕ → ℕ) → (ℕ → Bool) → ℕ → List ℕ
 arrives D n lost o b i =
     pick (untouched D n lost o b i && (leb (i + size_at o i) (D * n) && not (empty_null o i))) (run o i (size_at o i)) []
-
-append_same : (xs ys zs : List ℕ) → xs ++ ys ≡ xs ++ zs → ys ≡ zs
-append_same xs ys zs e = sym (drop-append_seam xs ys) ∙ ap (drop (length xs)) e ∙ drop-append_seam xs zs
 
 -- what a slot's report says
 pub record Told (D : ℕ) (b : ℕ → Bool) (k r : ℕ) : Type 0 where
@@ -310,60 +306,37 @@ module _ (D n : ℕ) (pos : 0 < D) (lost begins : List ℕ) (o : ℕ → ℕ) (b
       go again (yes k) = good_step p k (t k) (read D n lost begins o f) again
       go again (no k) = good_end (read D n lost begins o f) p (omega arith)
 
-  module _ (f : ℕ) (from : (f ≡ 65535 → ⊥) → (f < D) × (b f ≡ true)) (some : 0 < n) where
-    inside : (f ≡ 65535 → ⊥) → f < D * n
-    inside h = let m : D * 1 ≤ D * n = mul-le-mul_left D some in omega (arith, (from h).0)
+  good_start : 0 < n → (f : ℕ) → ((f ≡ 65535 → ⊥) → f ≡ get_or begins 0 0) → Good 0 (read D n lost begins o (D * n) (start D n lost begins f))
+  unfolding start
+  good_start some f h = go (eqb f 65535) refl
+    where
+      go : (t : Bool) → eqb f 65535 ≡ t → Good 0 (read D n lost begins o (D * n) (pick t (on_from D n lost begins 0) f))
+      go true e =
+          let g = on_from_law 0 in
+          let q : ℕ = on_from D n lost begins 0 in
+          good_skip 0 q _ (omega arith) (λ i x y. g.passed i (omega arith) y) (good (D * n) q g.within (omega arith) g.begin)
+      go false e =
+          let w : f ≡ get_or begins 0 0 = h (eqb-false f 65535 e) in
+          let v : get_or begins 0 0 ≡ 65535 → ⊥ = λ z. eqb-false f 65535 e (w ∙ z) in
+          let k = told 0 some in
+          let l : f < D = rw (← w) at (k.inside v) in
+          let m : D * 1 ≤ D * n = mul-le-mul_left D some in
+          let z : (i : ℕ) → D * 0 + i ≡ i = λ i. omega arith in
+          let t : b f ≡ true = ap b (w ∙ sym (z (get_or begins 0 0))) ∙ k.begins v in
+          good_skip 0 f _ (omega arith)
+          (λ i x y. quiet_none i (ap b (sym (z i)) ∙ k.before i (omega arith) (omega arith)))
+          (good (D * n) f (omega arith) (omega arith) (λ _. t))
 
-    good_start : Good (read_from f) (read D n lost begins o (D * n) (start D n lost begins f))
-    unfolding start
-    good_start = go (eqb f 65535) refl
-      where
-        go : (t : Bool) → eqb f 65535 ≡ t → Good (pick t 0 f) (read D n lost begins o (D * n) (pick t (on_from D n lost begins 0) f))
-        go true e =
-            let g = on_from_law 0 in
-            let q : ℕ = on_from D n lost begins 0 in
-            good_skip 0 q _ (omega arith) (λ i x y. g.passed i (omega arith) y) (good (D * n) q g.within (omega arith) g.begin)
-        go false e =
-            let h = eqb-false f 65535 e in
-            good (D * n) f (omega (arith, inside h)) (omega arith) (λ _. (from h).1)
-
-    -- what is cut behind the first octet to read does not begin before it
-    uncut_before : (i : ℕ) → i < read_from f → cut_at D n lost o b i ≡ false
-    unfolding cut_at untouched
-    uncut_before i = go (eqb f 65535) refl
-      where
-        past : (f ≡ 65535 → ⊥) → i < f → (t u : Bool) → b i ≡ t → ltb (D * n) (i + size_at o i) ≡ u
-            → ((b i && not (ltb (meets D n lost i (i + size_at o i)) n)) && ltb (D * n) (i + size_at o i)) ≡ false
-        past h l false u x y = rw x
-        past h l true false x y = rw y (and-false (b i && not (ltb (meets D n lost i (i + size_at o i)) n)))
-        past h l true true x y = let m = ltb-true (D * n) (i + size_at o i) y in absurd (clash (b f) ((honest i x).between f l (omega (arith, inside h))) (from h).1)
-
-        go : (t : Bool) → eqb f 65535 ≡ t → i < pick t 0 f
-            → ((b i && not (ltb (meets D n lost i (i + size_at o i)) n)) && ltb (D * n) (i + size_at o i)) ≡ false
-        go true e l = absurd (omega arith)
-        go false e l = past (eqb-false f 65535 e) l _ _ refl refl
-
-    pub read_honest : read D n lost begins o (D * n) (start D n lost begins f)
-        ≡ record {
-          written = joined (D * n) (λ i. pick (leb (read_from f) i) (arrives D n lost o b i) []);
-          unfinished = first (D * n) (cut_at D n lost o b);
-        }
-    read_honest =
-        let g = good_start in
-        let p : ℕ = read_from f in
-        let r : Reading = read D n lost begins o (D * n) (start D n lost begins f) in
-        let low = g.low in
-        let high = g.high in
-        let w : joined (D * n) (λ i. pick (leb p i) (arrives D n lost o b i) []) ≡ r.written
-        = append_same (joined p (arrives D n lost o b)) _ _ (sym (joined_from (arrives D n lost o b) p (D * n) (omega arith)) ∙ g.rest) in
-        let u : first (D * n) (cut_at D n lost o b) ≡ r.unfinished
-        = first_is (D * n) _ r.unfinished (record { within = high; before = λ k l. before g k l (dec_lt k p); there = g.there }) in
-        same r _ _ w u
-      where
-        before : Good (read_from f) (read D n lost begins o (D * n) (start D n lost begins f)) → (k : ℕ) → k < (read D n lost begins o (D * n) (start D n lost begins f)).unfinished
-            → Dec (k < read_from f) → cut_at D n lost o b k ≡ false
-        before g k l (yes m) = uncut_before k m
-        before g k l (no m) = g.before k (omega arith) l
-
-        same : (r : Reading) (xs : List ℕ) (k : ℕ) → xs ≡ r.written → k ≡ r.unfinished → r ≡ record { written = xs; unfinished = k }
-        same r xs k w u = λ i. record { written = sym w i; unfinished = sym u i }
+  pub read_honest : 0 < n → (f : ℕ) → ((f ≡ 65535 → ⊥) → f ≡ get_or begins 0 0)
+      → read D n lost begins o (D * n) (start D n lost begins f)
+      ≡ record { written = joined (D * n) (arrives D n lost o b); unfinished = first (D * n) (cut_at D n lost o b) }
+  read_honest some f h =
+      let g = good_start some f h in
+      let r : Reading = read D n lost begins o (D * n) (start D n lost begins f) in
+      let w : joined (D * n) (arrives D n lost o b) ≡ r.written = g.rest ∙ ap (λ (xs : List ℕ). xs ++ r.written) (joined_none (arrives D n lost o b)) in
+      let u : first (D * n) (cut_at D n lost o b) ≡ r.unfinished
+      = first_is (D * n) _ r.unfinished (record { within = g.high; before = λ k l. g.before k (omega arith) l; there = g.there }) in
+      same r _ _ w u
+    where
+      same : (r : Reading) (xs : List ℕ) (k : ℕ) → xs ≡ r.written → k ≡ r.unfinished → r ≡ record { written = xs; unfinished = k }
+      same r xs k w u = λ i. record { written = sym w i; unfinished = sym u i }

@@ -1,10 +1,10 @@
 -- What arrives of the lent packets in n slots of D data octets, some lost (document 02, N2): what a reader is to find.
-use Rattle.std.specs.Prelude.{Bool, not, ◌&&◌, List, [], ℕ, ◌+◌, ◌-◌, ◌*◌, eqb, leb, ltb, length}
+use Rattle.std.specs.Prelude.{Bool, not, ◌&&◌, List, [], ℕ, ◌+◌, ◌-◌, ◌*◌, leb, ltb, length}
 use Rattle.lists.specs.Choice.{pick}
 use Rattle.lists.specs.Count.{first, joined}
 use Rattle.lists.specs.Parts.{part}
 use Rattle.tlv.specs.Packets.{octets, size_at, empty_null, head_at}
-use Rattle.tlv.specs.Fill.{none, stream_at, stream_begins}
+use Rattle.tlv.specs.Fill.{stream_at, stream_begins}
 use Rattle.tlv.specs.Read.{meets}
 
 -- of slots' octets o, in which b says what begins: a packet or filler begins at i and touches no lost slot
@@ -32,17 +32,9 @@ module _ (D n : ℕ) (lost packets : List ℕ) (taken owed : ℕ) where
   abbrev pub sent_packets : List ℕ
   sent_packets = joined (length packets) sent_packet
 
-  -- "the first octet to read": those of them that begin at octet f of the slots or behind it
-  abbrev pub sent_from : ℕ → List ℕ
-  sent_from f = joined (length packets) (λ j. pick (leb f (owed + (j - taken))) (sent_packet j) [])
-
   -- "where in the lent slots an unfinished last packet or null begins (the slots' length if none)"
   abbrev pub sent_cut : ℕ
   sent_cut = first (D * n) (cut_at D n lost (stream_at packets taken owed) (stream_begins packets taken owed))
-
--- "the first octet to read (65535 for the first reported beginning)": before that one no packet begins, so none is left out
-abbrev pub read_from : ℕ → ℕ
-read_from f = pick (eqb f none) 0 f
 
 -- every packet from `taken` on that is no empty null
 unfoldable pub plain_packet : List ℕ → ℕ → ℕ → List ℕ

@@ -8,8 +8,6 @@ use Prim.Native.Nat.{ℕ, ◌+◌, ◌-◌, ◌*◌, ◌%◌, ◌<◌, ◌≤◌
 use native.Mathlib.Omega.{arith}
 use borrow.Author.Tests.{lt-ltb, le-ltb, le-leb, lt-leb, eqb-true}
 use Rattle.std.proofs.Math.ListN.{length, get_or}
-use Rattle.lists.specs.Choice.{pick}
-use Rattle.lists.specs.ChoiceLaws.{pick_same}
 use Rattle.lists.specs.Count.{joined}
 use Rattle.lists.specs.CountLaws.{joined_same, table_is, table_same, joined_quiet, joined_shift}
 use Rattle.lists.specs.Parts.{part}
@@ -80,7 +78,7 @@ module _ (D n : ℕ) (lost packets : List ℕ) (taken owed : ℕ) (ok : packets_
           arrives_null D n lost (stream_at packets taken owed) (stream_begins packets taken owed) (owed + k)
           (null_same (stream_at packets taken owed) (octets filler) (owed + k) 0 4 same (omega arith))
 
-  pub sent_before : (j : ℕ) → j < taken → S j ≡ []
+  sent_before : (j : ℕ) → j < taken → S j ≡ []
   unfolding sent_packet
   sent_before j h = rw (lt-leb taken j h)
 
@@ -112,27 +110,17 @@ module _ (D n : ℕ) (lost packets : List ℕ) (taken owed : ℕ) (ok : packets_
           let place : owed + (taken + k - taken) ≡ owed + k = omega arith in
           rw (begins_sent k, begins_within packets j h, e, le-leb taken j (omega arith), place, size, null, octs)
 
-  -- those that g keeps by their place in the slots
-  pub arrives_sent : (g : ℕ → Bool)
-      → joined (D * n) (λ i. pick (g i) (A i) []) ≡ joined (length packets) (λ j. pick (g (owed + (j - taken))) (sent_packet D n lost packets taken owed j) [])
-  arrives_sent g =
+  pub arrives_sent : joined (D * n) (arrives D n lost (stream_at packets taken owed) (stream_begins packets taken owed)) ≡ joined (length packets) (sent_packet D n lost packets taken owed)
+  arrives_sent =
       let d : ℕ = D * n - owed in
       let e : ℕ = length packets - taken in
       let x : owed + d ≡ D * n = omega arith in
       let y : taken + e ≡ length packets = omega arith in
-      let A' : ℕ → List ℕ = λ i. pick (g i) (A i) [] in
-      let S' : ℕ → List ℕ = λ j. pick (g (owed + (j - taken))) (S j) [] in
-      let B : ℕ → List ℕ = λ k. A' (owed + k) in
-      let none : (t : Bool) (xs : List ℕ) → xs ≡ [] → pick t xs [] ≡ [] = λ t xs h. rw h (pick_same t []) in
-      let place : (k : ℕ) → owed + (taken + k - taken) ≡ owed + k = λ k. omega arith in
-      let l : joined (D * n) A' ≡ joined d B = rw x at (joined_shift A' owed d (λ i h. none (g i) (A i) (owed_none i h))) in
-      let r : joined (length packets) S' ≡ joined e (λ k. S' (taken + k)) = rw y at (joined_shift S' taken e (λ j h. none (g (owed + (j - taken))) (S j) (sent_before j h))) in
+      let B : ℕ → List ℕ = λ k. A (owed + k) in
+      let l : joined (D * n) A ≡ joined d B = rw x at (joined_shift A owed d owed_none) in
+      let r : joined (length packets) S ≡ joined e (λ k. S (taken + k)) = rw y at (joined_shift S taken e sent_before) in
       l
-      ∙ sym (joined_quiet B d (d + e) (omega arith) (λ k a b. none (g (owed + k)) (A (owed + k)) (arrives_past D n lost (stream_at packets taken owed) (stream_begins packets taken owed) (owed + k) (omega arith))))
-      ∙ joined_quiet B e (d + e) (omega arith) (λ k a b. none (g (owed + k)) (A (owed + k)) (filler_none k (omega arith)))
-      ∙ joined_same e B (λ k. S' (taken + k)) (λ k a. rw (place k, packet_arrives k (omega arith)))
+      ∙ sym (joined_quiet B d (d + e) (omega arith) (λ k a b. arrives_past D n lost _ _ (owed + k) (omega arith)))
+      ∙ joined_quiet B e (d + e) (omega arith) (λ k a b. filler_none k (omega arith))
+      ∙ joined_same e B (λ k. S (taken + k)) (λ k a. packet_arrives k (omega arith))
       ∙ sym r
-
-  -- nothing of them begins at place owed + k
-  pub sent_none : (k : ℕ) → taken + k < length packets → stream_begins packets taken owed (owed + k) ≡ false → S (taken + k) ≡ []
-  sent_none k l h = sym (packet_arrives k l) ∙ arrives_none D n lost (stream_at packets taken owed) (stream_begins packets taken owed) (owed + k) h

@@ -39,7 +39,6 @@ add-address-requires c κs =
     let s = i.before.before.before.before.before in
     record {
       some = omega (arith, s.requires.rate.few);
-      few = omega arith;
       below = rw c.before.before.index.ensures.0 (s.requires.below l.i i.loop-test.true);
       bits = length_part s.args.base (s.args.base + 374) s.args.bits.now s.requires.long ∙ omega arith;
       places = l.invariant.adding.same ∙ s.requires.places;

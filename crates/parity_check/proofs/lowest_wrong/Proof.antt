@@ -132,7 +132,6 @@ add-address-requires c κs =
     let b = 374 * r.rows.r in
     record {
       some = omega (arith, s.pre.ready.rate.few);
-      few = omega arith;
       below = rw c.before.before.index2.ensures.0 ((row t).below l.loop.i (omega (arith, l.before.index.ensures.0, i.loop-test.true)));
       bits = length_part b (b + 374) s.args.bits.now (omega (arith, s.pre.ready.long, t.if1.taken)) ∙ omega arith;
       places = l.loop.invariant.adding.same ∙ size r;

@@ -42,16 +42,31 @@ returns-2 c =
     (sym (then_next _ _ (sym (first l.before) ∙ l.if1.false) ∙ rw (le-ltb s.label (2 ^ s.modulation) (omega (arith, c.if2.true, (sound l).in_phase)))))
     (λ z. omega (arith, z))
 
-answer-of-requires : tie.Need-answer-of-requires
-answer-of-requires c κs = listed (sound c.before) _ (below c)
+used-ok-requires : tie.Need-used-ok-requires
+used-ok-requires c κs = listed (sound c.before) _ (below c)
 
--- where the tests before it find nothing, the number is that of the entries
+point-of-requires : tie.Need-point-of-requires
+point-of-requires c κs = let b = c.before.before in listed (sound b.before) _ (below b)
+
 returns-3 : tie.Need-returns-3
 unfolding mapped_number
 returns-3 c =
-    let b = c.before in
+    let u = c.before.before in
+    let b = u.before in
     let l = b.before in
-    rw (then_next _ _ (sym (first l.before) ∙ l.if1.false), lt-ltb _ _ (below b)) c.answer-of.ensures
+    answered _ _ _
+    (then_next _ _ (sym (first l.before) ∙ l.if1.false) ∙ rw (lt-ltb _ _ (below b), sym u.used-ok.ensures ∙ c.before.if3.true))
+    c.point-of.ensures
+
+returns-4 : tie.Need-returns-4
+unfolding mapped_number
+returns-4 c =
+    let u = c.before in
+    let b = u.before in
+    let l = b.before in
+    refused _ _ _
+    (sym (then_next _ _ (sym (first l.before) ∙ l.if1.false) ∙ rw (lt-ltb _ _ (below b), sym u.used-ok.ensures ∙ c.if3.false)))
+    (λ z. omega (arith, z))
 
 pub mapped_spec : {M : Type 1} → statement M
-mapped_spec = tie.close (tie.spec (λ c κs. search rules) returns returns-2 answer-of-requires returns-3)
+mapped_spec = tie.close (tie.spec (λ c κs. search rules) returns returns-2 used-ok-requires point-of-requires returns-3 returns-4)

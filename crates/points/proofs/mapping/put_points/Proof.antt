@@ -11,7 +11,6 @@ use Rattle.lists.specs.FillingLaws.{filling_none, filling_set, filling_all}
 use Rattle.points.specs.declared.Point.{Point}
 use Rattle.points.specs.Points.{point_of, in_phase_of, quadrature_of}
 use Rattle.points.specs.PointLaws.{length_in_phase, length_quadrature, in_phase_at, quadrature_at}
-use Rattle.points.specs.AnswerLaws.{point_answered, refusal_answered}
 use Rattle.points.proofs.mapping.put_points.Statement.{statement}
 use Rattle.points.proofs.mapping.put_points.Tie as tie
 use Rattle.points.proofs.mapping.put_points.Reads as reads
@@ -38,11 +37,11 @@ loop-holds c =
       quadrature = filling_none _ _ (length_quadrature _ _ _ _ _ ∙ sym s.requires.q_long);
     }
 
-cast : tie.Need-overflow-cast-answer-of invariant-loop decreases-loop
+cast : tie.Need-overflow-cast-point-of invariant-loop decreases-loop
 cast c = omega (arith, c.shared-slice-known4.given c.before.before.loop.r)
 
-answer-of-requires : tie.Need-answer-of-requires invariant-loop decreases-loop
-answer-of-requires c κs =
+point-of-requires : tie.Need-point-of-requires invariant-loop decreases-loop
+point-of-requires c κs =
     let l = c.before.before in
     l.before.before.before.before.before.before.requires.listed l.loop.r c.before.loop-test.true
 
@@ -55,40 +54,31 @@ long-q c = c.loop.invariant.quadrature.same ∙ c.before.before.before.before.be
 
 mul-i : tie.Need-overflow-mul-i invariant-loop decreases-loop
 mul-i c =
-    let l = c.before.before.before.before.before.before in
+    let l = c.before.before.before in
     let s = l.before.before.before.before.before.before in
-    scaled_Fits l.loop.r (length s.args.i.now) 4 (omega (arith, s.requires.i_long, c.before.before.before.before.before.loop-test.true)) s.well-formed.1.1.1.1.1.0.1
+    scaled_Fits l.loop.r (length s.args.i.now) 4 (omega (arith, s.requires.i_long, c.before.before.loop-test.true)) s.well-formed.1.1.1.1.1.0.1
 
 write-i : tie.Need-slice-write-i invariant-loop decreases-loop
-write-i c = omega (arith, long-i c.before.before.before.before.before.before, c.before.before.before.before.before.loop-test.true)
+write-i c = omega (arith, long-i c.before.before.before, c.before.before.loop-test.true)
 
 mul-q : tie.Need-overflow-mul-q invariant-loop decreases-loop
 mul-q c =
-    let l = c.before.before.before.before.before.before in
+    let l = c.before.before.before in
     let s = l.before.before.before.before.before.before in
-    scaled_Fits l.loop.r (length s.args.q.now) 4 (omega (arith, s.requires.q_long, c.before.before.before.before.before.loop-test.true)) s.well-formed.1.1.1.1.1.1.0.1
+    scaled_Fits l.loop.r (length s.args.q.now) 4 (omega (arith, s.requires.q_long, c.before.before.loop-test.true)) s.well-formed.1.1.1.1.1.1.0.1
 
 write-q : tie.Need-slice-write-q invariant-loop decreases-loop
-write-q c = omega (arith, long-q c.before.before.before.before.before.before, c.before.before.before.before.before.loop-test.true)
-
--- no label is refused, since the entries of all are finite
-never : tie.After-enum-told invariant-loop decreases-loop → ⊥
-never c =
-    let a = c.before.before in
-    let l = a.before.before.before in
-    let f = refusal_answered _ _ _ (rw c.enum_told.given.1 at a.answer-of.ensures) in
-    f.1 (rw (l.before.before.before.before.before.before.requires.used l.loop.r a.before.before.loop-test.true))
+write-q c = omega (arith, long-q c.before.before.before, c.before.before.loop-test.true)
 
 add_at : tie.Need-overflow-add-at invariant-loop decreases-loop
 add_at c =
-    let l = c.before.before.before.before.before.before in
+    let l = c.before.before.before in
     let s = l.before.before.before.before.before.before in
-    omega (arith, l.loop.invariant.number, s.ranges.symbol, s.well-formed.1.1.1.1.1.0.1, s.requires.i_long, c.before.before.before.before.before.loop-test.true)
+    omega (arith, l.loop.invariant.number, s.ranges.symbol, s.well-formed.1.1.1.1.1.0.1, s.requires.i_long, c.before.before.loop-test.true)
 
 again : tie.Need-loop-preserved invariant-loop decreases-loop
 again c =
-    let a = c.before.before.before in
-    let l = a.before.before.before in
+    let l = c.before.before.before in
     let s = l.before.before.before.before.before.before in
     let m = s.args.modulation in
     let symbol = s.args.symbol in
@@ -96,11 +86,10 @@ again c =
     let ins = s.args.in_phase.now in
     let quads = s.args.quadrature.now in
     let r = l.loop.r in
-    let h = a.before.before.loop-test.true in
+    let h = c.before.before.loop-test.true in
     let v = l.loop.invariant in
-    let p = c.before.answer.given.0.0 in
-    let e : p ≡ point_of m (symbol + r) ins quads (get_or labels r 0)
-    = (point_answered _ _ p (rw c.before.answer.given.1 at a.answer-of.ensures)).1 ∙ ap (λ (n : ℕ). point_of m n ins quads (get_or labels r 0)) v.number in
+    let e : c.point-of.result ≡ point_of m (symbol + r) ins quads (get_or labels r 0)
+    = c.point-of.ensures ∙ ap (λ (n : ℕ). point_of m n ins quads (get_or labels r 0)) v.number in
     record {
       number = omega arith;
       in_phase =
@@ -111,8 +100,8 @@ again c =
           (ap (λ (p : Point). p.q) e ∙ sym (quadrature_at m symbol labels ins quads r h));
     }
 
-returns-2 : tie.Need-returns-2 invariant-loop decreases-loop
-returns-2 c =
+returns : tie.Need-returns invariant-loop decreases-loop
+returns c =
     let v = c.before.loop.invariant in
     let s = c.before.before.before.before.before.before.before in
     (filling_all _ _ _ _ v.in_phase (omega (arith, s.requires.i_long, c.loop-test.false)), filling_all _ _ _ _ v.quadrature (omega (arith, s.requires.q_long, c.loop-test.false)))
@@ -120,6 +109,5 @@ returns-2 c =
 pub put-points-spec : {M : Type 1} → statement M
 put-points-spec =
     tie.close
-    (tie.spec invariant-loop decreases-loop loop-holds (λ c. search rules) cast answer-of-requires (λ c. search rules) mul-i write-i mul-q write-q
-    (λ c. search rules) (λ c. absurd (never c)) (λ c. absurd (never c)) (λ c. absurd (never c)) add_at (λ c. omega arith) (λ c. omega arith)
-    again (λ c. c.before.loop.invariant.in_phase.same) (λ c. c.before.loop.invariant.quadrature.same) returns-2)
+    (tie.spec invariant-loop decreases-loop loop-holds (λ c. search rules) cast point-of-requires mul-i write-i mul-q write-q add_at
+    (λ c. omega arith) (λ c. omega arith) again (λ c. c.before.loop.invariant.in_phase.same) (λ c. c.before.loop.invariant.quadrature.same) returns)

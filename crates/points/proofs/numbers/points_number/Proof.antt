@@ -8,9 +8,8 @@ use lib.ListN.{length}
 use Rattle.lists.specs.ChoiceLaws.{and_right, then_first, then_next}
 use Rattle.symbols.specs.Labels.{label_number}
 use Rattle.symbols.specs.CallLaws.{labels_fit}
-use Rattle.points.specs.Needs.{AllListed}
-use Rattle.points.specs.Numbers.{lent_ok, lent_number, room_ok, used_number, points_number}
-use Rattle.points.specs.NumberLaws.{Lent, lent, listed, all_finite}
+use Rattle.points.specs.Numbers.{lent_ok, lent_number, room_ok, points_number}
+use Rattle.points.specs.NumberLaws.{Lent, lent, listed}
 use Rattle.points.proofs.numbers.points_number.Statement.{statement}
 use Rattle.points.proofs.numbers.points_number.Tie as tie
 
@@ -45,34 +44,19 @@ returns-2 c =
     let e = second l in
     e ∙ sym (then_next _ _ (sym (first n.before) ∙ n.if1.false) ∙ then_first _ _ (λ z. c.if2.true (e ∙ z)))
 
--- each label has its entries
-listed-all : (c : tie.Else2) → let s = c.before.before.before.before.before.before.before.before.args in AllListed s.in_phase.now s.quadrature.now s.labels.now
-listed-all c r h =
+used-number-requires : tie.Need-used-number-requires
+used-number-requires c κs r h =
     let l = c.before in
     listed (sound l.before) _ (labels_fit _ _ (sym (second l) ∙ c.if2.false) r h)
 
--- the number is that of the entries used
-third : (c : tie.Else2) → let s = c.before.before.before.before.before.before.before.before.args in
-    points_number s.modulation s.symbol s.labels.now s.in_phase.now s.quadrature.now s.i s.q ≡ used_number s.labels.now s.in_phase.now s.quadrature.now
-unfolding points_number
-third c =
-    let l = c.before in
-    let n = l.before in
-    then_next _ _ (sym (first n.before) ∙ n.if1.false) ∙ then_next _ _ (sym (second l) ∙ c.if2.false)
-
-entries-ok-requires : tie.Need-entries-ok-requires
-entries-ok-requires c κs = let l = sound c.before.before in l.in_phase ∙ sym l.quadrature
-
 returns-3 : tie.Need-returns-3
+unfolding points_number
 returns-3 c =
-    let e = c.before in
-    sym (third e.before ∙ all_finite _ _ _ (listed-all e.before) (sym e.entries-ok.ensures ∙ c.if3.true))
-
-returns-4 : tie.Need-returns-4
-returns-4 c = c.used-number.ensures ∙ sym (third c.before.before.before)
+    let l = c.before.before in
+    let n = l.before in
+    c.used-number.ensures ∙ sym (then_next _ _ (sym (first n.before) ∙ n.if1.false) ∙ then_next _ _ (sym (second l) ∙ c.before.if2.false))
 
 pub points-number-spec : {M : Type 1} → statement M
 points-number-spec =
     tie.close
-    (tie.spec (λ c κs. search rules) (λ c κs. search rules) returns label-number-requires returns-2 entries-ok-requires returns-3
-    (λ c κs. listed-all c.before.before) returns-4)
+    (tie.spec (λ c κs. search rules) (λ c κs. search rules) returns label-number-requires returns-2 used-number-requires returns-3)
