@@ -7,7 +7,7 @@ ghost use Rattle.bch.specs.Words.{worth};
 ghost use Rattle.bch.specs.Needs.{Entry};
 
 // A polynomial of a degree below 192, highest powers first.
-#[derive(Drop)]
+#[derive(Clone, Copy)]
 pub struct Words {
     pub high: u64,
     pub middle: u64,

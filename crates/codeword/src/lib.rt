@@ -12,7 +12,7 @@ pub use sizes::run_bits;
 
 // The sizes of a codeword: the width of the dispersal register, the rows of the parity table, the bits of the message
 // and of the tail, the zeros before and behind them in the parity input, and the octets of the whole.
-#[derive(Drop)]
+#[derive(Clone, Copy)]
 pub struct Shape {
     pub width: u32,
     pub rows: usize,
@@ -28,7 +28,7 @@ pub const NO_POSITION: u16 = 65535;
 
 // The refusal of a received word, or 0, and with that of its parity the lowest failing parity position.
 #[repr(C)]
-#[derive(Drop)]
+#[derive(Clone, Copy)]
 pub struct WordAnswer {
     pub number: u8,
     pub position: u16,

@@ -11,7 +11,7 @@ pub use tables::{copy_tables, tables_entries};
 
 // What is asked for of a slot: the number, 0 or the refusal, and its place.
 #[repr(C)]
-#[derive(Drop)]
+#[derive(Clone, Copy)]
 pub struct Placed {
     pub number: u8,
     pub place: Place,

@@ -1,4 +1,5 @@
 // Numbers as text: digits, the number that a run of them makes, and the number that a word says.
+#![tactic(auto)]
 mod digits;
 mod words;
 
@@ -6,7 +7,7 @@ pub use digits::{digit, value};
 pub use words::number;
 
 // The number that a word says, where it says one.
-#[derive(Drop)]
+#[derive(Clone, Copy)]
 pub struct Said {
     pub ok: bool,
     pub value: u32,

@@ -1,4 +1,5 @@
 // Rates and modulations, the slot plan, the place of a slot, and the frame state: opening a frame, and passing a dummy.
+#![tactic(auto)]
 ghost use Rattle.std.specs.Prelude.{◌≡◌};
 ghost use Rattle.plan.specs.Records.{of_columns, no_plan, state_at, plan_in};
 
@@ -36,7 +37,7 @@ pub const BLOCK_WIDTH: u32 = 15;
 
 // A slot plan: of the groups 0, 1, .. the first `count` are in use.
 #[repr(C)]
-#[derive(Drop)]
+#[derive(Clone, Copy)]
 pub struct Plan {
     pub count: u16,
     pub modulation: [u16; 8],
@@ -46,7 +47,7 @@ pub struct Plan {
 
 // Where a slot lies: its group, with the group's modulation and rate, and whether the slot carries data or is a dummy.
 #[repr(C)]
-#[derive(Drop)]
+#[derive(Clone, Copy)]
 pub struct Place {
     pub group: usize,
     pub modulation: u32,
@@ -56,7 +57,7 @@ pub struct Place {
 
 // The frame state: the plan's groups, the register's settings, the next slot number from 1, and the register.
 #[repr(C)]
-#[derive(Drop)]
+#[derive(Clone, Copy)]
 pub struct FrameState {
     pub count: u16,
     pub modulation: [u16; 8],
@@ -70,7 +71,7 @@ pub struct FrameState {
 
 // What a call answers: its number, 0 or the refusal, and the state after it.
 #[repr(C)]
-#[derive(Drop)]
+#[derive(Clone, Copy)]
 pub struct Answer {
     pub number: u8,
     pub state: FrameState,

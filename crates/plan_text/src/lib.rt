@@ -13,7 +13,7 @@ const SPACE: u8 = 32;
 const LINE_FEED: u8 = 10;
 
 // A line read: whether it is right, its three numbers, and where the next one begins.
-#[derive(Drop)]
+#[derive(Clone, Copy)]
 pub struct Line {
     pub ok: bool,
     pub modulation: u16,
@@ -24,7 +24,7 @@ pub struct Line {
 
 // What reading a text answers: 0 and the plan, or the refusal and a plan of zeros.
 #[repr(C)]
-#[derive(Drop)]
+#[derive(Clone, Copy)]
 pub struct PlanRead {
     pub number: u8,
     pub plan: Plan,

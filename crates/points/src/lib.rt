@@ -9,14 +9,14 @@ pub use calls::{
 };
 
 // A signal point: its in-phase and its quadrature coordinate.
-#[derive(Drop)]
+#[derive(Clone, Copy)]
 pub struct Point {
     pub i: f32,
     pub q: f32,
 }
 
 // The point of a label, or the refusal.
-#[derive(Drop)]
+#[derive(Clone, Copy)]
 pub enum PointAnswer {
     At(Point),
     Refused(u8),
@@ -24,7 +24,7 @@ pub enum PointAnswer {
 
 // The same for C, where an enum does not cross: the number, 0 or the refusal, and both coordinates, zeros by a refusal.
 #[repr(C)]
-#[derive(Drop)]
+#[derive(Clone, Copy)]
 pub struct PointValues {
     pub number: u8,
     pub i: f32,
@@ -33,7 +33,7 @@ pub struct PointValues {
 
 // What stepping the register of the arrangement signal answers: its number, 0 or the refusal, and the register after it.
 #[repr(C)]
-#[derive(Drop)]
+#[derive(Clone, Copy)]
 pub struct StepAnswer {
     pub number: u8,
     pub register: u32,

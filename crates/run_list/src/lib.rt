@@ -13,7 +13,7 @@ use plan::Plan;
 use texts::{put_decimal, put_field, put_text};
 
 // What writing a list answers: 0 and how many octets it takes, or the refusal and 0.
-#[derive(Drop)]
+#[derive(Clone, Copy)]
 pub struct Listed {
     pub number: u8,
     pub length: usize,

@@ -7,7 +7,7 @@ pub use blocks::{first_refusal, no_settings, put_block, read_block, setting_numb
 
 // The settings of a dispersal register.
 #[repr(C)]
-#[derive(Drop)]
+#[derive(Clone, Copy)]
 pub struct Register {
     pub mask: u32,
     pub start: u32,
@@ -15,7 +15,7 @@ pub struct Register {
 
 // Those of both: of slots and of TMCC blocks.
 #[repr(C)]
-#[derive(Drop)]
+#[derive(Clone, Copy)]
 pub struct Registers {
     pub slots: Register,
     pub tmcc: Register,
@@ -23,7 +23,7 @@ pub struct Registers {
 
 // What reading a block answers: its number, 0 or the refusal, and plan and registers, zeros by a refusal.
 #[repr(C)]
-#[derive(Drop)]
+#[derive(Clone, Copy)]
 pub struct SettingsAnswer {
     pub number: u8,
     pub plan: Plan,

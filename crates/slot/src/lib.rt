@@ -14,7 +14,7 @@ pub const NO_STUFF: u8 = 255;
 // What reading a slot answers: its number, 0 or the refusal, the state after it, the slot's stuff bits as a number, and with the
 // refusal of its parity the lowest failing parity position.
 #[repr(C)]
-#[derive(Drop)]
+#[derive(Clone, Copy)]
 pub struct SlotRead {
     pub number: u8,
     pub state: FrameState,

@@ -11,7 +11,7 @@ use word_reader::WordRead;
 
 // A received slot, read: the refusal of its parity or BCH bits, or 0, the register after it, its stuff bits, and the failing
 // position told beside the number.
-#[derive(Drop)]
+#[derive(Clone, Copy)]
 pub struct Found {
     pub number: u8,
     pub register: u32,

@@ -13,7 +13,7 @@ pub const NONE: u16 = 65535;
 
 // What filling answers: octets taken in all, and octets of a cut filler that are owed.
 #[repr(C)]
-#[derive(Drop)]
+#[derive(Clone, Copy)]
 pub struct FillAnswer {
     pub number: u8,
     pub taken: usize,
@@ -22,7 +22,7 @@ pub struct FillAnswer {
 
 // What reading answers: octets written, and where in the slots the unfinished one begins.
 #[repr(C)]
-#[derive(Drop)]
+#[derive(Clone, Copy)]
 pub struct ReadAnswer {
     pub number: u8,
     pub written: usize,

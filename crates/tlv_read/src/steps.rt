@@ -9,7 +9,7 @@ use tlv::ReadAnswer;
 
 // What a step does: stop at `at`; or write `size` octets, and go on there. Where octets were wanted and are `there`, it is
 // not decided yet.
-#[derive(Drop)]
+#[derive(Clone, Copy)]
 pub struct Move {
     pub there: bool,
     pub ends: bool,

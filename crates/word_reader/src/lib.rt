@@ -9,7 +9,7 @@ use codeword::Shape;
 
 // A received word, read: the refusal of its parity or BCH bits, or 0, the failing position told beside it, and the register
 // after the word.
-#[derive(Drop)]
+#[derive(Clone, Copy)]
 pub struct WordRead {
     pub number: u8,
     pub position: u16,

@@ -1,0 +1,49 @@
+-- `ldpc::run_sums`: the sums passed are running sums; the last one is carried on, and the place is that of the position.
+use mathlib.Core.Path.{◌≡◌, sym, ap, ◌∙◌}
+use mathlib.Core.List.{List}
+use Prim.Native.Nat.{ℕ, ◌+◌, ◌*◌, ◌-◌, ◌%◌, ◌<◌, ◌≤◌}
+use native.Mathlib.Nat.{mul-add}
+use native.Mathlib.Decide.{ℕ_discrete}
+use native.Mathlib.Omega.{arith}
+use lib.ListN.{length, get_or, set, length-set}
+use lib.Seq.{get_or-set_same, get_or-set_other}
+use borrow.Author.Rules.{rules}
+use Rattle.lists.specs.Count.{sum}
+use Rattle.lists.specs.CountLaws.{sum_none, table_is}
+use Rattle.ldpc.specs.Parity.{running}
+use Rattle.ldpc.specs.ParityLaws.{running_sum}
+use Rattle.ldpc.specs.Columns.{across, sum_at}
+use Rattle.ldpc.specs.ColumnLaws.{across_at, across_below}
+use Rattle.ldpc.specs.AddedLaws.{carry_more}
+use Rattle.ldpc.proofs.run_sums.Given as goal
+
+-- the positions passed
+pub record Run (q : ℕ) (columns sums : List ℕ) (last position : ℕ) : Type 0 where
+  pub same : length sums ≡ 374 * q
+  pub done : (k : ℕ) → k < position → get_or sums k 0 ≡ running (sum_at q columns) k
+  pub carried : last ≡ sum position (sum_at q columns) % 2
+
+-- before position q × j
+pub record Outer (q : ℕ) (columns sums : List ℕ) (last position j : ℕ) : Type 0 where
+  pub run : Run q columns sums last position
+  pub within : j ≤ 374
+  pub reached : position ≡ q * j
+
+-- before position q × j + c
+pub record Inner (q : ℕ) (columns : List ℕ) (j : ℕ) (sums : List ℕ) (last position place c : ℕ) : Type 0 where
+  pub run : Run q columns sums last position
+  pub within : c ≤ q
+  pub reached : position ≡ q * j + c
+  pub stands : place ≡ 374 * c + j
+
+abbrev pub invariant-loop-c : goal.invariant-loop-c
+invariant-loop-c l = Inner l.q l.columns l.j l.sums l.last l.position l.place l.c
+
+abbrev pub decreases-loop-c : goal.decreases-loop-c
+decreases-loop-c l = l.q - l.c
+
+abbrev pub invariant-loop-j : goal.invariant-loop-j
+invariant-loop-j l = Outer l.q l.columns l.sums l.last l.position l.j
+
+abbrev pub decreases-loop-j : goal.decreases-loop-j
+decreases-loop-j l = 374 - l.j

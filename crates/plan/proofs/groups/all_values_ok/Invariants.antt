@@ -1,0 +1,16 @@
+-- `plan::all_values_ok`: the values of the groups passed are right.
+use mathlib.Core.Path.{◌≡◌, sym, ap, ◌∙◌}
+use mathlib.Core.Bool.{true}
+use Prim.Native.Nat.{ℕ, ◌-◌, ◌≤◌}
+use native.Mathlib.Omega.{arith}
+use borrow.Author.Rules.{rules}
+use Rattle.lists.specs.Count.{every}
+use Rattle.lists.specs.CountLaws.{every_none, every_next, every_not}
+use Rattle.plan.specs.Plans.{values_ok}
+use Rattle.plan.proofs.groups.all_values_ok.Given as goal
+
+abbrev pub invariant-loop-g : goal.invariant-loop-g
+invariant-loop-g l = (l.count ≡ l.plan.count) × (l.g ≤ l.count) × (every l.g (values_ok l.plan) ≡ true)
+
+abbrev pub decreases-loop-g : goal.decreases-loop-g
+decreases-loop-g l = l.count - l.g

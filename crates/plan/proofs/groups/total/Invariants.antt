@@ -1,0 +1,14 @@
+-- `plan::total`: the slots of the groups passed.
+use mathlib.Core.Path.{◌≡◌, sym, ap, ◌∙◌}
+use Prim.Native.Nat.{◌*◌, ◌-◌, ◌≤◌}
+use native.Mathlib.Omega.{arith}
+use borrow.Author.Rules.{rules}
+use Rattle.plan.specs.Plans.{slots_before}
+use Rattle.plan.specs.PlanLaws.{before_none, before_more}
+use Rattle.plan.proofs.groups.total.Given as goal
+
+abbrev pub invariant-loop-g : goal.invariant-loop-g
+invariant-loop-g l = (l.count ≡ l.plan.count) × (l.g ≤ l.count) × (l.sum ≤ 65536 * l.g) × (l.sum ≡ slots_before l.plan l.g)
+
+abbrev pub decreases-loop-g : goal.decreases-loop-g
+decreases-loop-g l = l.count - l.g

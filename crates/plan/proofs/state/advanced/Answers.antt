@@ -1,0 +1,6 @@
+-- `plan::advanced`: the state's own plan and settings, one slot on.
+use borrow.Author.Rules.{rules}
+use Rattle.plan.proofs.state.advanced.Goals as goal
+
+pub returns : goal.returns
+returns c = rw (c.state_at.ensures, c.plan_in.ensures)

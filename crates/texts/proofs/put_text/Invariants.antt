@@ -1,0 +1,25 @@
+-- `texts::put_text`: the octets passed are written.
+use mathlib.Core.Path.{◌≡◌, refl, sym, ap, ◌∙◌}
+use mathlib.Core.List.{List, [], ◌∷◌}
+use Prim.Native.Nat.{ℕ, ◌+◌, ◌-◌, ◌≤◌, ◌<◌}
+use native.Mathlib.Omega.{arith}
+use native.Mathlib.Numerals.{add-one}
+use borrow.Author.Rules.{rules}
+use lib.ListN.{length, get_or, set, take, length-set}
+use lib.Seq.{take-suc, take_all, length-take-le}
+use Rattle.lists.specs.Parts.{put}
+use Rattle.lists.specs.PartLaws.{put_one, put_put, put_none}
+use Rattle.texts.specs.Written.{written}
+use Rattle.texts.proofs.put_text.Given as goal
+
+pub record Inv (found : List ℕ) (at : ℕ) (text out : List ℕ) (i next : ℕ) : Type 0 where
+  pub within : i ≤ length text
+  pub place : next ≡ at + i
+  pub same : length out ≡ length found
+  pub filled : out ≡ put at (take i text) found
+
+abbrev pub invariant-loop-i : goal.invariant-loop-i
+invariant-loop-i l = Inv l.initial.out l.at l.text l.out l.i l.next
+
+abbrev pub decreases-loop-i : goal.decreases-loop-i
+decreases-loop-i l = length l.text - l.i
