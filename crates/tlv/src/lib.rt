@@ -1,4 +1,5 @@
 // TLV packets: what filling and reading share, and what both calls answer.
+#![tactic(auto)]
 mod packets;
 mod sizes;
 

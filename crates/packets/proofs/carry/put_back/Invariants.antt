@@ -1,0 +1,25 @@
+-- `packets::put_back`: the area is filled with the packets, each by its first octet and then the others.
+use mathlib.Core.Path.{◌≡◌, refl, sym, ap, ◌∙◌}
+use mathlib.Core.List.{List}
+use Prim.Native.Nat.{ℕ, ◌+◌, ◌*◌, ◌-◌, ◌≤◌}
+use native.Mathlib.Omega.{arith}
+use lib.ListN.{get_or, length-set}
+use borrow.Author.Rules.{rules}
+use Rattle.lists.specs.Filling.{Filling}
+use Rattle.lists.specs.FillingLaws.{filling_none, filling_more, filling_part, filling_all}
+use Rattle.packets.specs.Packets.{unpacked}
+use Rattle.packets.specs.PacketLaws.{length_unpacked, unpacked_first}
+use Rattle.packets.proofs.Turns.{back_turn}
+use Rattle.packets.proofs.carry.put_back.Given as goal
+
+pub record Inv (count : ℕ) (octets found packets : List ℕ) (i from at : ℕ) : Type 0 where
+  pub passed : i ≤ count
+  pub source : from ≡ 187 * i
+  pub place : at ≡ 188 * i
+  pub filling : Filling (unpacked count octets) found at packets
+
+abbrev pub invariant-loop-i : goal.invariant-loop-i
+invariant-loop-i l = Inv l.count l.octets l.initial.packets l.packets l.i l.from l.at
+
+abbrev pub decreases-loop-i : goal.decreases-loop-i
+decreases-loop-i l = l.count - l.i

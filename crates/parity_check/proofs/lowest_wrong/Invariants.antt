@@ -1,0 +1,73 @@
+-- `parity_check::lowest_wrong`: in the first rows the columns have the sums of the rows and addresses passed; in the
+-- others the running sum was right at every position passed.
+use mathlib.Core.Path.{◌≡◌, refl, sym, ap, ◌∙◌}
+use mathlib.Core.List.{List}
+use Prim.Native.Nat.{ℕ, ◌+◌, ◌*◌, ◌-◌, ◌<◌, ◌≤◌, min}
+use native.Mathlib.Omega.{arith}
+use lib.ListN.{length, get_or, replicate}
+use borrow.Author.Rules.{rules}
+use Rattle.lists.specs.PartLaws.{length_part}
+use Rattle.parity_table.specs.Tables.{positions, row_start}
+use Rattle.parity_table.specs.TableLaws.{Row, row_start_none, row_start_more, row_at}
+use Rattle.ldpc.specs.Parity.{spacing}
+use Rattle.ldpc.specs.Stepping.{row_stepped, times_stepped}
+use Rattle.ldpc.specs.SteppedParityLaws.{row_stepped_none, row_stepped_more, times_stepped_none}
+use Rattle.ldpc.specs.Columns.{across}
+use Rattle.ldpc.specs.ColumnLaws.{place_below}
+use Rattle.ldpc.specs.Needs.{Added, AddedBySteps}
+use Rattle.ldpc.specs.AddedLaws.{added_none, added_then}
+use Rattle.parity_check.specs.CheckLaws.{lowest_wrong_is}
+use Rattle.parity_check.proofs.Passing.{Passed, times_stepped_next, added_rows, passed_none, parity_at, passed_more}
+use Rattle.parity_check.proofs.lowest_wrong.Given as goal
+
+-- the columns and the parity positions passed, before row r of the slot
+pub record AtRow (rows : ℕ) (table bits received found sums : List ℕ) (s last position place r : ℕ) : Type 0 where
+  pub within : r ≤ 120
+  pub start : s ≡ row_start table (min r rows)
+  pub adding : Added found sums (λ n. times_stepped (spacing rows) table bits (min r rows) (across (spacing rows) 374 n))
+  pub reached : position ≡ 374 * (r - rows)
+  pub passed : Passed rows table bits received last position place
+
+-- the addresses of row r passed before address i
+pub record AtAddress (rows : ℕ) (table bits found : List ℕ) (s r count : ℕ) (sums : List ℕ) (i : ℕ) : Type 0 where
+  pub within : i ≤ count
+  pub adding : Added found sums (λ n. row_stepped (spacing rows) table bits (s + 1) i (374 * r) (across (spacing rows) 374 n))
+
+-- the parity positions of a row passed before the k-th
+pub record AtBit (rows : ℕ) (table bits received : List ℕ) (first last position place k : ℕ) : Type 0 where
+  pub within : k ≤ 374
+  pub reached : position ≡ first + k
+  pub passed : Passed rows table bits received last position place
+
+-- the function's entry, from the loop over rows
+abbrev pub entry : tie.At-rows invariant-loop decreases-loop invariant-loop2 decreases-loop2 invariant-rows decreases-rows → tie.Start invariant-loop decreases-loop invariant-loop2 decreases-loop2 invariant-rows decreases-rows
+entry c = c.before.before.before.before.before.before.before.before.before
+
+-- each parity position is one of M, and so is its place in the columns
+pub within : (c : tie.In-loop2 invariant-loop decreases-loop invariant-loop2 decreases-loop2 invariant-rows decreases-rows) →
+    (let l = c.before.loop2 in
+    let m = positions (entry c.before.before.before.before).args.rows in
+    (l.position < m) × (l.place < m))
+within c =
+    let l = c.before.loop2 in
+    let a = (entry c.before.before.before.before).args in
+    let h : l.position < positions a.rows = omega (arith, l.invariant.reached, c.before.before.before.before.rows.invariant.reached) in
+    (h, rw l.invariant.passed.stands (place_below (spacing a.rows) l.position h))
+
+abbrev pub invariant-loop-i : goal.invariant-loop-i
+invariant-loop-i l = AtAddress l.rows l.table l.bits l.initial.sums l.s l.r l.count l.sums l.i
+
+abbrev pub decreases-loop-i : goal.decreases-loop-i
+decreases-loop-i l = l.count - l.i
+
+abbrev pub invariant-loop : goal.invariant-loop
+invariant-loop l = AtBit l.rows l.table l.bits l.received l.initial.position l.last l.position l.place l.counter
+
+abbrev pub decreases-loop : goal.decreases-loop
+decreases-loop l = 374 - l.counter
+
+abbrev pub invariant-rows : goal.invariant-rows
+invariant-rows l = AtRow l.rows l.table l.bits l.received l.initial.sums l.sums l.s l.last l.position l.place l.r
+
+abbrev pub decreases-rows : goal.decreases-rows
+decreases-rows l = 120 - l.r

@@ -1,0 +1,6 @@
+-- `plan_text::refused`: the number, with the plan of no groups.
+use borrow.Author.Rules.{rules}
+use Rattle.plan_text.proofs.refused.Goals as goal
+
+pub returns : goal.returns
+returns c = rw c.no_plan-plan.ensures

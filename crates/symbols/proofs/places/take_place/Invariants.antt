@@ -1,0 +1,24 @@
+-- `symbols::take_place`: the area is filled with the labels that have one bit more, each read before it is replaced.
+use mathlib.Core.Path.{◌≡◌, sym, ap, ap₂, ◌∙◌}
+use mathlib.Core.List.{List}
+use Prim.Native.Nat.{ℕ, ◌+◌, ◌*◌, ◌-◌, ◌<◌}
+use native.Mathlib.Nat.{mul-zero}
+use native.Mathlib.Omega.{arith}
+use lib.ListN.{length, get_or}
+use borrow.Author.Rules.{rules}
+use Rattle.lists.specs.CountLaws.{length_table, get_or_table}
+use Rattle.lists.specs.Filling.{Filling}
+use Rattle.lists.specs.FillingLaws.{filling_none, filling_here, filling_more, filling_all}
+use Rattle.symbols.specs.Needs.{grown}
+use Rattle.symbols.proofs.Strides.{next_step}
+use Rattle.symbols.proofs.places.take_place.Given as goal
+
+pub record Inv (bits : List ℕ) (start step : ℕ) (found labels : List ℕ) (r at : ℕ) : Type 0 where
+  pub place : at ≡ start + step * r
+  pub filling : Filling (grown bits start step found) found r labels
+
+abbrev pub invariant-loop-r : goal.invariant-loop-r
+invariant-loop-r l = Inv l.bits l.start l.step l.initial.labels l.labels l.r l.at
+
+abbrev pub decreases-loop-r : goal.decreases-loop-r
+decreases-loop-r l = length l.initial.labels - l.r

@@ -1,0 +1,25 @@
+-- `symbols::label_bits`: the labels have the bits at the places passed.
+use mathlib.Core.Path.{◌≡◌, refl, sym, ap, ◌∙◌}
+use mathlib.Core.Bool.{Bool}
+use mathlib.Core.List.{List}
+use Prim.Native.Nat.{ℕ, ◌*◌, ◌-◌, ◌≤◌}
+use native.Mathlib.Omega.{arith}
+use lib.ListN.{length, length-replicate}
+use borrow.Author.Rules.{rules}
+use Rattle.lists.specs.CountLaws.{length_table}
+use Rattle.symbols.specs.Index.{stride_of}
+use Rattle.symbols.specs.Labels.{labels_of}
+use Rattle.symbols.proofs.Turns.{labels_to, to_none, taking, taken, to_all}
+use Rattle.symbols.proofs.runs.label_bits.Given as goal
+
+pub record Inv (m : ℕ) (leftward : Bool) (run found : List ℕ) (step : ℕ) (labels : List ℕ) (place : ℕ) : Type 0 where
+  pub passed : place ≤ m
+  pub stride : step ≡ stride_of m
+  pub same : length labels ≡ length found
+  pub done : labels ≡ labels_to m (length found) leftward run place
+
+abbrev pub invariant-loop-place : goal.invariant-loop-place
+invariant-loop-place l = Inv l.modulation l.leftward l.run l.initial.labels l.step l.labels l.place
+
+abbrev pub decreases-loop-place : goal.decreases-loop-place
+decreases-loop-place l = l.modulation - l.place
