@@ -1,4 +1,5 @@
 // The block of a setting: plan and registers, read and written.
+#![tactic(auto)]
 use plan::Plan;
 
 mod blocks;

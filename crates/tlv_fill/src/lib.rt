@@ -1,4 +1,5 @@
 // Filling the data octets of slots with TLV packets.
+#![tactic(auto)]
 mod begins;
 mod calls;
 mod octets;

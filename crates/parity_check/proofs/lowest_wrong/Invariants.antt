@@ -39,21 +39,6 @@ pub record AtBit (rows : ℕ) (table bits received : List ℕ) (first last posit
   pub reached : position ≡ first + k
   pub passed : Passed rows table bits received last position place
 
--- the function's entry, from the loop over rows
-abbrev pub entry : tie.At-rows invariant-loop decreases-loop invariant-loop2 decreases-loop2 invariant-rows decreases-rows → tie.Start invariant-loop decreases-loop invariant-loop2 decreases-loop2 invariant-rows decreases-rows
-entry c = c.before.before.before.before.before.before.before.before.before
-
--- each parity position is one of M, and so is its place in the columns
-pub within : (c : tie.In-loop2 invariant-loop decreases-loop invariant-loop2 decreases-loop2 invariant-rows decreases-rows) →
-    (let l = c.before.loop2 in
-    let m = positions (entry c.before.before.before.before).args.rows in
-    (l.position < m) × (l.place < m))
-within c =
-    let l = c.before.loop2 in
-    let a = (entry c.before.before.before.before).args in
-    let h : l.position < positions a.rows = omega (arith, l.invariant.reached, c.before.before.before.before.rows.invariant.reached) in
-    (h, rw l.invariant.passed.stands (place_below (spacing a.rows) l.position h))
-
 abbrev pub invariant-loop-i : goal.invariant-loop-i
 invariant-loop-i l = AtAddress l.rows l.table l.bits l.initial.sums l.s l.r l.count l.sums l.i
 

@@ -1,0 +1,11 @@
+-- `points::values_of`: each case has the values of the definition.
+use mathlib.Core.Path.{ap, sym}
+use borrow.Author.Rules.{rules}
+use Rattle.points.specs.Answers.{as_values}
+use Rattle.points.proofs.calls.values_of.Goals as goal
+
+pub returns-in-At : goal.returns-in-At
+returns-in-At c = sym (ap as_values c.answer.given.1)
+
+pub returns-in-Refused : goal.returns-in-Refused
+returns-in-Refused c = sym (ap as_values c.answer-in-Refused-1.given.1)

@@ -1,0 +1,40 @@
+-- `tlv_fill::begins::mark_begins`: h is the first beginning at or behind the slot's first octet.
+use mathlib.Core.Path.{◌≡◌, sym, ap, ◌∙◌}
+use mathlib.Core.List.{List}
+use Prim.Native.Nat.{ℕ, ◌+◌, ◌-◌, ◌*◌, ◌<◌, ◌≤◌}
+use native.Mathlib.Nat.{mul-le-mul_left}
+use native.Mathlib.Decide.{dec_lt}
+use native.Mathlib.Omega.{arith}
+use borrow.Author.Rules.{rules}
+use lib.ListN.{length, get_or}
+use Rattle.lists.specs.Filling.{Filling}
+use Rattle.lists.specs.FillingLaws.{filling_none, filling_more, filling_all}
+use Rattle.tlv.specs.Fill.{reports}
+use Rattle.tlv.specs.FillLaws.{reports_at_law, length_reports}
+use Rattle.tlv_fill.specs.BeginTurns.{Ahead, ahead_start, ahead_later, report_at}
+use Rattle.tlv_fill.specs.Needs.{MarkNeeds}
+use Rattle.tlv_fill.proofs.begins.mark_begins.Given as goal
+
+pub record Inv (D : ℕ) (packets : List ℕ) (taken owed : ℕ) (found begins : List ℕ) (k start h : ℕ) : Type 0 where
+  pub place : start ≡ D * k
+  pub ahead : Ahead packets (taken + (start - owed)) h
+  pub filling : Filling (reports D (length found) packets taken owed) found k begins
+
+-- where the first beginning lies
+pub record Found (packets : List ℕ) (taken owed start h : ℕ) : Type 0 where
+  pub from : taken + (start - owed) ≤ h
+  pub near : h < length packets + start + 4
+
+pub found : (packets : List ℕ) (taken owed start target h : ℕ) → taken ≤ length packets → target ≡ taken + (start - owed) → Ahead packets target h → target ≤ h
+    → Found packets taken owed start h
+found packets taken owed start target h w e a l = record { from = omega arith; near = go (dec_lt (length packets) h) }
+  where
+    go : Dec (length packets < h) → h < length packets + start + 4
+    go (yes m) = let n = a.near m in omega arith
+    go (no m) = omega arith
+
+abbrev pub invariant-loop-k : goal.invariant-loop-k
+invariant-loop-k l = Inv l.size l.packets l.taken l.owed l.initial.begins l.begins l.k l.start l.h
+
+abbrev pub decreases-loop-k : goal.decreases-loop-k
+decreases-loop-k l = length l.initial.begins - l.k

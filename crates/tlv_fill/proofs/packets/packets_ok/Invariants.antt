@@ -1,0 +1,23 @@
+-- `tlv_fill::packets::packets_ok`: what is left to test is the test from h on.
+use mathlib.Core.Path.{◌≡◌, refl, sym, ap, ◌∙◌}
+use mathlib.Core.List.{List}
+use Prim.Native.Nat.{ℕ, ◌+◌, ◌-◌, ◌≤◌}
+use native.Mathlib.Omega.{arith}
+use borrow.Author.Rules.{rules}
+use borrow.Author.Tests.{not-true, not-false}
+use lib.ListN.{length}
+use Rattle.tlv.specs.Packets.{octets, size_at, packets_from, packets_ok}
+use Rattle.tlv.specs.PacketLaws.{size_least}
+use Rattle.tlv_fill.specs.PacketTurns.{accept_end, accept_short, accept_wrong, accept_past, accept_body, accept_more}
+use Rattle.tlv_fill.proofs.packets.packets_ok.Given as goal
+
+pub record Inv (packets : List ℕ) (total h : ℕ) : Type 0 where
+  pub all : total ≡ length packets
+  pub within : h ≤ length packets
+  pub left : packets_ok packets ≡ packets_from (octets packets) (length packets) (length packets) h
+
+abbrev pub invariant-loop-h : goal.invariant-loop-h
+invariant-loop-h l = Inv l.packets l.total l.h
+
+abbrev pub decreases-loop-h : goal.decreases-loop-h
+decreases-loop-h l = l.total - l.h
