@@ -14,14 +14,14 @@ returns-then-register-eq1 c =
     let k = c in
     let a = k in
     let r = a.args.register in
-    ap At (c.half_turn.ensures ∙ rw (eq-eqb (top 15 r) 1 c.if-register-eq1.true)) ∙ sym (ap (turned_answer r) a.answer.given.1)
+    ap At (c.half_turn.ensures ∙ rw (eq-eqb (top 15 r) 1 c.if-register-eq1.true)) ∙ sym (ap (turned_answer r) c.in-At.is)
 
 pub returns-else-register-eq1 : goal.returns-else-register-eq1
 unfolding arranged_of top
 returns-else-register-eq1 c =
     let a = c in
     let r = a.args.register in
-    ap At (rw (ne_eqb (top 15 r) 1 c.if-register-eq1.false)) ∙ sym (ap (turned_answer r) a.answer.given.1)
+    ap At (rw (ne_eqb (top 15 r) 1 c.if-register-eq1.false)) ∙ sym (ap (turned_answer r) c.in-At.is)
 
 pub returns-in-Refused : goal.returns-in-Refused
-returns-in-Refused c = let a = c in sym (ap (turned_answer a.args.register) a.answer-in-Refused-1.given.1)
+returns-in-Refused c = let a = c in sym (ap (turned_answer a.args.register) c.in-Refused.is)

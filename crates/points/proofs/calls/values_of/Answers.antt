@@ -5,7 +5,7 @@ use Rattle.points.specs.Answers.{as_values}
 use Rattle.points.proofs.calls.values_of.Goals as goal
 
 pub returns-in-At : goal.returns-in-At
-returns-in-At c = sym (ap as_values c.answer.given.1)
+returns-in-At c = sym (ap as_values c.in-At.is)
 
 pub returns-in-Refused : goal.returns-in-Refused
-returns-in-Refused c = sym (ap as_values c.answer-in-Refused-1.given.1)
+returns-in-Refused c = sym (ap as_values c.in-Refused.is)

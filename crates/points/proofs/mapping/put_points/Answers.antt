@@ -11,19 +11,8 @@ use Rattle.lists.specs.FillingLaws.{filling_none, filling_set, filling_all}
 use Rattle.points.specs.declared.Point.{Point}
 use Rattle.points.specs.Points.{point_of, in_phase_of, quadrature_of}
 use Rattle.points.specs.PointLaws.{length_in_phase, length_quadrature, in_phase_at, quadrature_at}
-use Rattle.points.proofs.mapping.put_points.Reads as reads
-use Rattle.points.proofs.mapping.put_points.Lts as lts
 use Rattle.points.proofs.mapping.put_points.Invariants.{Putting}
-use Rattle.points.proofs.mapping.put_points.Goals.{At-loop-r}
-use Rattle.points.proofs.mapping.put_points.Lts.View.{up-At-loop-r}
 use Rattle.points.proofs.mapping.put_points.Goals as goal
-
--- the areas are as long as the labels are many
-long-i : (c : At-loop-r) → length c.loop-r.i ≡ length c.args.labels.now
-long-i c = c.loop-r.invariant.in_phase.same ∙ c.requires.i_long
-
-long-q : (c : At-loop-r) → length c.loop-r.q ≡ length c.args.labels.now
-long-q c = c.loop-r.invariant.quadrature.same ∙ c.requires.q_long
 
 pub loop-r-init : goal.loop-r-init
 loop-r-init c =
@@ -49,7 +38,7 @@ offset_bounds-i-r c =
     scaled_Fits l.loop-r.r (length s.args.i.now) 4 (omega (arith, s.requires.i_long, c.loop-r-test.true)) s.well_formed.1.1.1.1.1.0.1
 
 pub bounds-i-r : goal.bounds-i-r
-bounds-i-r c = omega (arith, long-i (up-At-loop-r _ _ _ _ _ c.before.before.before.before), c.loop-r-test.true)
+bounds-i-r c = omega (arith, c.loop-r.invariant.in_phase.same, c.requires.i_long, c.loop-r-test.true)
 
 pub offset_bounds-q-r : goal.offset_bounds-q-r
 offset_bounds-q-r c =
@@ -58,7 +47,7 @@ offset_bounds-q-r c =
     scaled_Fits l.loop-r.r (length s.args.q.now) 4 (omega (arith, s.requires.q_long, c.loop-r-test.true)) s.well_formed.1.1.1.1.1.1.0.1
 
 pub bounds-q-r : goal.bounds-q-r
-bounds-q-r c = omega (arith, long-q (up-At-loop-r _ _ _ _ _ c.before.before.before.before), c.loop-r-test.true)
+bounds-q-r c = omega (arith, c.loop-r.invariant.quadrature.same, c.requires.q_long, c.loop-r-test.true)
 
 pub overflow_add-at : goal.overflow_add-at
 overflow_add-at c =

@@ -19,7 +19,9 @@ pub returns-then-number-ne0 : goal.returns-then-number-ne0
 returns-then-number-ne0 c =
     let a = c.args in
     let n = c.fill_number-number in
-    fill_refused a.rate a.packets.now a.taken a.owed a.slots.now a.begins.now n.result n.ensures c.if-number-ne0.true
+    let q =
+      fill_refused a.rate a.packets.now a.taken a.owed a.slots.now a.begins.now n.result n.ensures c.if-number-ne0.true in
+    record { value = q.0; slots_after = q.1; begins_after = q.2 }
 
 pub overflow_sub-end : goal.overflow_sub-end
 overflow_sub-end c =
@@ -55,11 +57,13 @@ returns c =
     let a = c.args in
     let n = c.fill_number-number in
     let r = ready (up-Else-number-ne0 _ _ _ c.before.before.before.before.before.before.before.before.before.before.before.before.before) in
-    fill_done a.rate a.packets.now a.taken a.owed a.slots.now a.begins.now n.result n.ensures c.if-number-ne0.false
-    c.fewer.result c.lacking.result _ _
-    c.fewer.ensures
-    (c.lacking.ensures ∙ ap lacking c.beyond.ensures)
-    c.lay.ensures
-    (c.mark_begins.ensures
-    ∙ ap (λ (x : ℕ). reports x (length a.begins.now) a.packets.now a.taken a.owed) c.data_octets.ensures
-    ∙ ap (λ (x : ℕ). reports (data_octets_of a.rate) x a.packets.now a.taken a.owed) r.lent.reports)
+    let q =
+      fill_done a.rate a.packets.now a.taken a.owed a.slots.now a.begins.now n.result n.ensures c.if-number-ne0.false
+      c.fewer.result c.lacking.result _ _
+      c.fewer.ensures
+      (c.lacking.ensures ∙ ap lacking c.beyond.ensures)
+      c.lay.ensures
+      (c.mark_begins.ensures
+      ∙ ap (λ (x : ℕ). reports x (length a.begins.now) a.packets.now a.taken a.owed) c.data_octets.ensures
+      ∙ ap (λ (x : ℕ). reports (data_octets_of a.rate) x a.packets.now a.taken a.owed) r.lent.reports) in
+    record { value = q.0; slots_after = q.1; begins_after = q.2 }

@@ -12,7 +12,9 @@ use Rattle.tlv_read.proofs.calls.read.Goals as goal
 pub returns-then-number-ne0 : goal.returns-then-number-ne0
 returns-then-number-ne0 c =
     let a = c.args in
-    read_refused a.rate a.slots.now a.begins.now a.lost.now a.first a.packets.now c.read_number-number.result c.read_number-number.ensures c.if-number-ne0.true
+    let q =
+      read_refused a.rate a.slots.now a.begins.now a.lost.now a.first a.packets.now c.read_number-number.result c.read_number-number.ensures c.if-number-ne0.true in
+    record { value = q.0; packets_after = q.1 }
 
 pub start_at-from-requires : goal.start_at-from-requires
 start_at-from-requires c =
@@ -32,6 +34,8 @@ returns c =
     let d = c.data_octets-size in
     let g = reading_is a.rate a.slots.now a.begins.now a.lost.now a.first a.packets.now (sym n.ensures ∙ c.if-number-ne0.false) d.result d.ensures c.start_at-from.result c.start_at-from.ensures in
     let r = c.read_from in
-    read_done a.rate a.slots.now a.begins.now a.lost.now a.first a.packets.now n.result n.ensures c.if-number-ne0.false r.result _
-    (r.ensures.answer ∙ ap (λ (x : Reading). record { number = 0; written = length x.written; unfinished = x.unfinished }) g)
-    (r.ensures.octets ∙ ap (λ (x : Reading). laid x.written a.packets.now) g)
+    let q =
+      read_done a.rate a.slots.now a.begins.now a.lost.now a.first a.packets.now n.result n.ensures c.if-number-ne0.false r.result _
+      (r.ensures.answer ∙ ap (λ (x : Reading). record { number = 0; written = length x.written; unfinished = x.unfinished }) g)
+      (r.ensures.octets ∙ ap (λ (x : Reading). laid x.written a.packets.now) g) in
+    record { value = q.0; packets_after = q.1 }
