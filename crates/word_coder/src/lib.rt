@@ -1,4 +1,5 @@
 // Coding a word, once its message, BCH bits and tail stand at the head of its bits.
+#![tactic(auto)]
 ghost use Rattle.std.specs.Prelude.{◌≡◌, take};
 ghost use Rattle.bits.specs.Octets.{octets_of};
 ghost use Rattle.dispersal.specs.Dispersal.{dispersed};

@@ -19,7 +19,6 @@ use Rattle.run_list.specs.ListingLaws.{length_answer_text}
 use Rattle.run_list.specs.Needs.{Taken}
 use Rattle.texts.specs.Written.{Written}
 use Rattle.run_list.proofs.answer.Goals.{After-read_plan-read}
-use Rattle.run_list.proofs.answer.Lts.View.{up-After-read_plan-read}
 use Rattle.run_list.proofs.answer.Goals as goal
 
 -- the number and the plan read are the text's
@@ -42,24 +41,37 @@ whole x t found area n e l w =
     (m, (w.filled ∙ ap (λ (y : List ℕ). put 0 y found) e, record { within = h; counted = sym (length-take-le n area h) }))
 
 pub returns-then-read-ne0 : goal.returns-then-read-ne0
-unfolding answer_text
+unfolding answer_text plan_read
 returns-then-read-ne0 c =
+    let numbered : c.read_plan-read.result.number ≡ read_number c.args.text.now = ap (λ r. r.number) c.read_plan-read.ensures in
     let b = c in
     let r = b in
     let t = r.args.text.now in
-    whole _ t _ _ _ (rw (← numbered (up-After-read_plan-read _ _ _ c.before.before.before.before.before.before), ne_eqb _ 0 b.if-read-ne0.true)) (search rules) c.write_refusal.ensures
+    let q =
+      whole _ t _ _ _ (rw (← numbered, ne_eqb _ 0 b.if-read-ne0.true)) (search rules) c.write_refusal.ensures in
+    record { value = q.0; out_after = q.1.0; taken = q.1.1 }
 
 pub write_all-requires : goal.write_all-requires
-unfolding read_number
+unfolding read_number plan_read
 write_all-requires c =
+    let numbered : c.read_plan-read.result.number ≡ read_number c.args.text.now = ap (λ r. r.number) c.read_plan-read.ensures in
+    let planned : c.read_plan-read.result.number ≡ 0 → c.read_plan-read.result.plan ≡ plan_of c.args.text.now = λ z.
+    let t = c.args.text.now in
+    ap (λ r. r.plan) c.read_plan-read.ensures ∙ ap (λ (n : ℕ). pick (eqb n 0) (plan_of t) no_plan) (sym (numbered) ∙ z) in
     let r = c in
     let t = r.args.text.now in
     let z = c.if-read-ne0.false in
-    record { plan = ap plan_number (planned (up-After-read_plan-read _ _ _ c.before.before.before.before.before) z) ∙ (then_zero (text_number t) _ (sym (numbered (up-After-read_plan-read _ _ _ c.before.before.before.before.before)) ∙ z)).1; long = search rules }
+    record { plan = ap plan_number (planned z) ∙ (then_zero (text_number t) _ (sym (numbered) ∙ z)).1; long = search rules }
 
 pub returns : goal.returns
-unfolding answer_text
+unfolding answer_text plan_read
 returns c =
+    let numbered : c.read_plan-read.result.number ≡ read_number c.args.text.now = ap (λ r. r.number) c.read_plan-read.ensures in
+    let planned : c.read_plan-read.result.number ≡ 0 → c.read_plan-read.result.plan ≡ plan_of c.args.text.now = λ z.
+    let t = c.args.text.now in
+    ap (λ r. r.plan) c.read_plan-read.ensures ∙ ap (λ (n : ℕ). pick (eqb n 0) (plan_of t) no_plan) (sym (numbered) ∙ z) in
     let r = c in
     let z = c.if-read-ne0.false in
-    whole _ r.args.text.now _ _ _ (ap list_text (planned (up-After-read_plan-read _ _ _ c.before.before.before.before.before.before) z) ∙ rw (← numbered (up-After-read_plan-read _ _ _ c.before.before.before.before.before.before), eq-eqb _ 0 z)) (search rules) c.write_all.ensures
+    let q =
+      whole _ r.args.text.now _ _ _ (ap list_text (planned z) ∙ rw (← numbered, eq-eqb _ 0 z)) (search rules) c.write_all.ensures in
+    record { value = q.0; out_after = q.1.0; taken = q.1.1 }

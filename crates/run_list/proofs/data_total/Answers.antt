@@ -19,7 +19,9 @@ group c = let s = c in sizes s.args.plan c.loop-g.g s.requires (omega (arith, c.
 carried : (c : After-data_slots-sum)
     → let l = c in
     (c.data_slots-sum.result ≡ data_slots_of l.args.plan l.loop-g.g) × (c.data_slots-sum.result ≤ 120)
-carried c = let z = group c.before in (c.data_slots-sum.ensures, omega (arith, c.data_slots-sum.ensures, z.carried, z.ends))
+carried c =
+    let group : Sizes c.args.plan c.loop-g.g = let s = c in sizes s.args.plan c.loop-g.g s.requires (omega (arith, c.loop-g.invariant.0, c.loop-g-test.true)) in
+    let z = group in (c.data_slots-sum.ensures, omega (arith, c.data_slots-sum.ensures, z.carried, z.ends))
 
 pub loop-g-init : goal.loop-g-init
 loop-g-init c =

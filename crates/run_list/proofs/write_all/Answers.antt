@@ -9,7 +9,6 @@ use Rattle.run_list.specs.ListingLaws.{length_groups}
 use Rattle.texts.specs.Written.{written_then, written_is}
 use Rattle.run_list.proofs.Sizes.{totals}
 use Rattle.run_list.proofs.write_all.Goals.{After-data_total-data}
-use Rattle.run_list.proofs.write_all.Lts.View.{up-After-data_total-data}
 use Rattle.run_list.proofs.write_all.Goals as goal
 
 sums : (c : After-data_total-data)
@@ -23,9 +22,14 @@ sums c =
 
 -- ?? (λ c. omega (arith, sums c))
 
-pub write-total-requires : goal.write-total-requires
-write-total-requires c =
-    let k = sums c in
+pub write_total-requires : goal.write_total-requires
+write_total-requires c =
+    let sums : (let p = c.args.plan in (c.data_total-data.result ≤ 120) × (120 - c.data_total-data.result ≡ dummy_total p)) =
+    let s = c in
+    let t = totals s.args.plan s.requires.plan in
+    let e = c.data_total-data.ensures in
+    (omega arith, omega arith) in
+    let k = sums in
     let g = c in
     let h = g in
     let s = h in
@@ -39,11 +43,16 @@ write-total-requires c =
 pub returns : goal.returns
 unfolding list_text heading
 returns c =
+    let sums : (let p = c.args.plan in (c.data_total-data.result ≤ 120) × (120 - c.data_total-data.result ≡ dummy_total p)) =
+    let s = c in
+    let t = totals s.args.plan s.requires.plan in
+    let e = c.data_total-data.ensures in
+    (omega arith, omega arith) in
     let t = c in
     let d = t in
     let g = d in
     let h = g in
-    let k = sums (up-After-data_total-data _ _ _ c.before.before.before.before.before) in
+    let k = sums in
     written_then (search rules) h.put_text-groups.ensures
     (written_then (omega (arith, h.put_text-groups.ensures.reached, h.put_text-groups.ensures.same, h.requires.long)) g.write_groups-total.ensures
     (written_is (ap₂ total_line d.data_total-data.ensures k.1) t.write_total.ensures))

@@ -17,7 +17,6 @@ use Rattle.run_list.specs.ListingLaws.{length_run_text}
 use Rattle.texts.specs.Written.{Written, written_then, written_is}
 use Rattle.run_list.proofs.Sizes.{Sizes, sizes}
 use Rattle.run_list.proofs.write_group.Goals.{After-data_slots, After-write_run-next, Start}
-use Rattle.run_list.proofs.write_group.Lts.View.{up-After-data_slots, up-After-write_run-next, up-Start}
 use Rattle.run_list.proofs.write_group.Goals as goal
 
 group : (c : Start) → Sizes c.args.plan c.args.g
@@ -30,11 +29,12 @@ carried : (c : After-data_slots)
     let f = c.data_slots.result in
     (x ≡ slots_of s.args.plan s.args.g) × (f ≡ data_slots_of s.args.plan s.args.g) × (s.args.passed + x ≤ 120) × (f ≤ x)
 carried c =
+    let group : Sizes c.args.plan c.args.g = sizes c.args.plan c.args.g c.requires.plan c.requires.group in
     let s = c in
-    let z = group (up-Start _ _ _ c.before.before.before.before.before.before.before.before.before) in
+    let z = group in
     let x = c.index-slots.ensures.0 in
     let f = c.data_slots.ensures in
-    (x, f, omega (arith, x, s.requires, z.ends), omega (arith, x, f, z.carried))
+    (x, f, omega (arith, x, s.requires.before, z.ends), omega (arith, x, f, z.carried))
 
 run_is : (p : Plan) (g : ℕ) (b : Bool) (from to m r : ℕ) → from ≡ run_first p g b → to ≡ run_last p g b → m ≡ modulation_of p g → r ≡ rate_of p g
     → pick (leb from to) (run_line from to m r (kind_word b)) [] ≡ run_text p g b
@@ -47,11 +47,18 @@ data-run : (c : After-write_run-next)
     Written (run_text s.args.plan s.args.g true) s.args.at s.args.out.now c.write_run-next.new.out c.write_run-next.result
 unfolding run_first run_last kind_word
 data-run c =
+    let group : Sizes c.args.plan c.args.g = sizes c.args.plan c.args.g c.requires.plan c.requires.group in
+    let carried : (let s = c in let x = c.index-slots.result in let f = c.data_slots.result in (x ≡ slots_of s.args.plan s.args.g) × (f ≡ data_slots_of s.args.plan s.args.g) × (s.args.passed + x ≤ 120) × (f ≤ x)) =
+    let s = c in
+    let z = group in
+    let x = c.index-slots.ensures.0 in
+    let f = c.data_slots.ensures in
+    (x, f, omega (arith, x, s.requires.before, z.ends), omega (arith, x, f, z.carried)) in
     let b = c in
     let s = b in
-    let k = carried (up-After-data_slots _ _ _ c.before.before.before.before.before) in
+    let k = carried in
     written_is
-    (run_is s.args.plan s.args.g true _ _ _ _ (ap (λ (n : ℕ). n + 1) s.requires) (ap₂ (λ (m n : ℕ). m + n) s.requires k.1) b.index-modulation.ensures.0 b.index-rate.ensures.0)
+    (run_is s.args.plan s.args.g true _ _ _ _ (ap (λ (n : ℕ). n + 1) s.requires.before) (ap₂ (λ (m n : ℕ). m + n) s.requires.before k.1) b.index-modulation.ensures.0 b.index-rate.ensures.0)
     c.write_run-next.ensures
 
 -- ?? (λ c. omega (arith, group c))
@@ -68,12 +75,19 @@ data-run c =
 
 -- ?? (λ c. omega (arith, carried c))
 
-pub write-run-requires : goal.write-run-requires
-write-run-requires c =
+pub write_run-next-requires : goal.write_run-next-requires
+write_run-next-requires c =
+    let group : Sizes c.args.plan c.args.g = sizes c.args.plan c.args.g c.requires.plan c.requires.group in
+    let carried : (let s = c in let x = c.index-slots.result in let f = c.data_slots.result in (x ≡ slots_of s.args.plan s.args.g) × (f ≡ data_slots_of s.args.plan s.args.g) × (s.args.passed + x ≤ 120) × (f ≤ x)) =
+    let s = c in
+    let z = group in
+    let x = c.index-slots.ensures.0 in
+    let f = c.data_slots.ensures in
+    (x, f, omega (arith, x, s.requires.before, z.ends), omega (arith, x, f, z.carried)) in
     let b = c in
     let s = b in
-    let k = carried b in
-    let z = group s in
+    let k = carried in
+    let z = group in
     record {
       begins = omega (arith, k.2);
       ends = omega (arith, k.2, k.3);
@@ -84,14 +98,29 @@ write-run-requires c =
 
 -- ?? (λ c. omega (arith, carried c))
 
-pub write-run-requires-2 : goal.write-run-requires-2
-write-run-requires-2 c =
+pub write_run-requires : goal.write_run-requires
+unfolding run_first run_last kind_word
+write_run-requires c =
+    let group : Sizes c.args.plan c.args.g = sizes c.args.plan c.args.g c.requires.plan c.requires.group in
+    let carried : (let s = c in let x = c.index-slots.result in let f = c.data_slots.result in (x ≡ slots_of s.args.plan s.args.g) × (f ≡ data_slots_of s.args.plan s.args.g) × (s.args.passed + x ≤ 120) × (f ≤ x)) =
+    let s = c in
+    let z = group in
+    let x = c.index-slots.ensures.0 in
+    let f = c.data_slots.ensures in
+    (x, f, omega (arith, x, s.requires.before, z.ends), omega (arith, x, f, z.carried)) in
+    let data-run : (let s = c in Written (run_text s.args.plan s.args.g true) s.args.at s.args.out.now c.write_run-next.new.out c.write_run-next.result) =
+    let b = c in
+    let s = b in
+    let k = carried in
+    written_is
+    (run_is s.args.plan s.args.g true _ _ _ _ (ap (λ (n : ℕ). n + 1) s.requires.before) (ap₂ (λ (m n : ℕ). m + n) s.requires.before k.1) b.index-modulation.ensures.0 b.index-rate.ensures.0)
+    c.write_run-next.ensures in
     let d = c in
     let b = d in
     let s = b in
-    let k = carried b in
-    let z = group s in
-    let w = data-run d in
+    let k = carried in
+    let z = group in
+    let w = data-run in
     record {
       begins = omega (arith, k.2, k.3);
       ends = omega (arith, k.2);
@@ -101,14 +130,28 @@ write-run-requires-2 c =
     }
 
 pub returns : goal.returns
-unfolding group_text run_first run_last kind_word
+unfolding group_text run_first run_last kind_word 
 returns c =
+    let group : Sizes c.args.plan c.args.g = sizes c.args.plan c.args.g c.requires.plan c.requires.group in
+    let carried : (let s = c in let x = c.index-slots.result in let f = c.data_slots.result in (x ≡ slots_of s.args.plan s.args.g) × (f ≡ data_slots_of s.args.plan s.args.g) × (s.args.passed + x ≤ 120) × (f ≤ x)) =
+    let s = c in
+    let z = group in
+    let x = c.index-slots.ensures.0 in
+    let f = c.data_slots.ensures in
+    (x, f, omega (arith, x, s.requires.before, z.ends), omega (arith, x, f, z.carried)) in
+    let data-run : (let s = c in Written (run_text s.args.plan s.args.g true) s.args.at s.args.out.now c.write_run-next.new.out c.write_run-next.result) =
+    let b = c in
+    let s = b in
+    let k = carried in
+    written_is
+    (run_is s.args.plan s.args.g true _ _ _ _ (ap (λ (n : ℕ). n + 1) s.requires.before) (ap₂ (λ (m n : ℕ). m + n) s.requires.before k.1) b.index-modulation.ensures.0 b.index-rate.ensures.0)
+    c.write_run-next.ensures in
     let y = c in
     let d = y in
     let b = d in
     let s = b in
-    let k = carried (up-After-data_slots _ _ _ c.before.before.before.before.before.before.before.before.before.before.before.before.before) in
-    let e = ap₂ (λ (m n : ℕ). m + n) s.requires k.1 in
-    let f = ap₂ (λ (m n : ℕ). m + n) s.requires k.0 ∙ sym (before_more s.args.plan s.args.g) in
-    written_then (search rules) (data-run (up-After-write_run-next _ _ _ c.before.before.before.before.before.before.before.before.before))
+    let k = carried in
+    let e = ap₂ (λ (m n : ℕ). m + n) s.requires.before k.1 in
+    let f = ap₂ (λ (m n : ℕ). m + n) s.requires.before k.0 ∙ sym (before_more s.args.plan s.args.g) in
+    written_then (search rules) (data-run)
     (written_is (run_is s.args.plan s.args.g false _ _ _ _ (ap (λ (n : ℕ). n + 1) e) f b.index-modulation.ensures.0 b.index-rate.ensures.0) y.write_run.ensures)

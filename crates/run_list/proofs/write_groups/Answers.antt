@@ -15,7 +15,6 @@ use Rattle.texts.specs.Written.{Written, written_none, written_then, written_is}
 use Rattle.run_list.proofs.Sizes.{Sizes, sizes}
 use Rattle.run_list.proofs.write_groups.Invariants.{Inv}
 use Rattle.run_list.proofs.write_groups.Goals.{In-loop-g}
-use Rattle.run_list.proofs.write_groups.Lts.View.{up-In-loop-g}
 use Rattle.run_list.proofs.write_groups.Goals as goal
 
 -- the group of this turn
@@ -46,29 +45,40 @@ write_group-next-requires c =
     record {
       plan = s.requires.plan;
       group = omega (arith, l.invariant.all, c.loop-g-test.true);
-      before = l.invariant;
+      before = l.invariant.before;
       room = omega (arith, s.requires.room, w.reached, w.same, length_groups s.args.plan l.g, l.invariant.few, c.loop-g-test.true);
     }
 
 pub bounds-plan-g : goal.bounds-plan-g
-bounds-plan-g c = omega (arith, group (up-In-loop-g _ _ _ _ _ c.before.before.before.before.before))
+bounds-plan-g c =
+    let group : Sizes c.args.plan c.loop-g.g =
+    let s = c in
+    sizes s.args.plan c.loop-g.g s.requires.plan (omega (arith, c.loop-g.invariant.all, c.loop-g-test.true)) in
+    omega (arith, group)
 
 pub overflow_add-passed : goal.overflow_add-passed
-overflow_add-passed c = omega (arith, group (up-In-loop-g _ _ _ _ _ c.before.before.before.before.before.before.before), c.index-passed.ensures.0)
+overflow_add-passed c =
+    let group : Sizes c.args.plan c.loop-g.g =
+    let s = c in
+    sizes s.args.plan c.loop-g.g s.requires.plan (omega (arith, c.loop-g.invariant.all, c.loop-g-test.true)) in
+    omega (arith, group, c.index-passed.ensures.0)
 
 pub loop-g-preserved : goal.loop-g-preserved
 loop-g-preserved c =
+    let group : Sizes c.args.plan c.loop-g.g =
+    let s = c in
+    sizes s.args.plan c.loop-g.g s.requires.plan (omega (arith, c.loop-g.invariant.all, c.loop-g-test.true)) in
     let w = c in
     let i = w in
     let l = i.loop-g in
     let s = i in
     let p = s.args.plan in
-    let z = group (up-In-loop-g _ _ _ _ _ c.before.before.before.before.before.before.before) in
+    let z = group in
     record {
       all = l.invariant.all;
       few = l.invariant.few;
       within = omega (arith, i.loop-g-test.true);
-      before = omega (arith, before_more p l.g, l.invariant, c.index-passed.ensures.0);
+      before = omega (arith, before_more p l.g, l.invariant.before, c.index-passed.ensures.0);
       small = omega (arith, l.invariant.small, c.index-passed.ensures.0, z.ends);
       lines = written_is (sym (joined_more l.g (group_text p))) (written_then (search rules) l.invariant.lines w.write_group-next.ensures);
     }

@@ -6,8 +6,8 @@ use Rattle.texts.specs.DecimalLaws.{length_decimal}
 use Rattle.texts.specs.Written.{written_then}
 use Rattle.run_list.proofs.write_refusal.Goals as goal
 
-pub put-text-requires-2 : goal.put-text-requires-2
-put-text-requires-2 c =
+pub put_text-requires : goal.put_text-requires
+put_text-requires c =
     let d = c in
     let w = d in
     let a = w.args in

@@ -23,10 +23,10 @@ returns c =
     let x = c.put_body in
     let q = c.sum_of-sum in
     let y = c.put_number in
-    let m : length x.new.1.1.0 ≡ 510 = ap length x.ensures ∙ length_body edition a.plan a.registers in
+    let m : length x.new.octets ≡ 510 = ap length x.ensures ∙ length_body edition a.plan a.registers in
     let t : q.result ≡ sum_of (body edition a.plan a.registers)
-    = q.ensures ∙ ap sum_of (take_at x.new.1.1.0 _ 510 m ∙ x.ensures) in
-    let j : y.new.1.0 ≡ big_endian 2 (sum_of (body edition a.plan a.registers))
-    = y.ensures ∙ ap₂ big_endian (length_part 510 512 (put_mid 0 510 a.block.now x.new.1.1.0) (search rules)) t in
-    two_parts a.block.now x.new.1.1.0 y.new.1.0 510 512 s.requires.long (omega arith) m (ap length j ∙ length_big_endian 2 _)
+    = q.ensures ∙ ap sum_of (take_at x.new.octets _ 510 m ∙ x.ensures) in
+    let j : y.new.octets ≡ big_endian 2 (sum_of (body edition a.plan a.registers))
+    = y.ensures ∙ ap₂ big_endian (length_part 510 512 (put_mid 0 510 a.block.now x.new.octets) (search rules)) t in
+    two_parts a.block.now x.new.octets y.new.octets 510 512 s.requires.long (omega arith) m (ap length j ∙ length_big_endian 2 _)
     ∙ ap₂ (λ (u v : List ℕ). u ++ v) x.ensures j

@@ -20,9 +20,9 @@ returns c =
     let x = c.copy in
     let y = c.put_number in
     let z = c.put_plan in
-    let i : x.new.1.0 ≡ mark = x.ensures in
-    let j : y.new.1.0 ≡ big_endian 1 edition
-    = y.ensures ∙ ap (λ (n : ℕ). big_endian n edition) (length_part 4 5 (put_mid 0 4 a.octets.now x.new.1.0) (search rules)) in
-    three_parts a.octets.now x.new.1.0 y.new.1.0 z.new.1.0 4 5 30 s.requires.long (omega arith) (omega arith)
+    let i : x.new.to ≡ mark = x.ensures in
+    let j : y.new.octets ≡ big_endian 1 edition
+    = y.ensures ∙ ap (λ (n : ℕ). big_endian n edition) (length_part 4 5 (put_mid 0 4 a.octets.now x.new.to) (search rules)) in
+    three_parts a.octets.now x.new.to y.new.octets z.new.octets 4 5 30 s.requires.long (omega arith) (omega arith)
     (ap length i) (ap length j ∙ length_big_endian 1 edition) (ap length z.ensures ∙ length_plan edition a.plan)
     ∙ ap₂ (λ (p q : List ℕ). p ++ q) i (ap₂ (λ (p q : List ℕ). p ++ q) j z.ensures)

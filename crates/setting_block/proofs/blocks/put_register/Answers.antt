@@ -17,7 +17,7 @@ returns c =
     let a = s.args in
     let x = c.put_number in
     let y = c.put_number-2 in
-    let i : x.new.1.0 ≡ big_endian 4 a.register.mask = x.ensures ∙ ap (λ (n : ℕ). big_endian n a.register.mask) (length_part 0 4 a.octets.now (search rules)) in
-    let j : y.new.1.0 ≡ big_endian 4 a.register.start = y.ensures ∙ ap (λ (n : ℕ). big_endian n a.register.start) (length_part 4 8 (put_mid 0 4 a.octets.now x.new.1.0) (search rules)) in
-    two_parts a.octets.now x.new.1.0 y.new.1.0 4 8 s.requires (omega arith) (ap length i ∙ length_big_endian 4 _) (ap length j ∙ length_big_endian 4 _)
+    let i : x.new.octets ≡ big_endian 4 a.register.mask = x.ensures ∙ ap (λ (n : ℕ). big_endian n a.register.mask) (length_part 0 4 a.octets.now (search rules)) in
+    let j : y.new.octets ≡ big_endian 4 a.register.start = y.ensures ∙ ap (λ (n : ℕ). big_endian n a.register.start) (length_part 4 8 (put_mid 0 4 a.octets.now x.new.octets) (search rules)) in
+    two_parts a.octets.now x.new.octets y.new.octets 4 8 s.requires (omega arith) (ap length i ∙ length_big_endian 4 _) (ap length j ∙ length_big_endian 4 _)
     ∙ ap₂ (λ (p q : List ℕ). p ++ q) i j

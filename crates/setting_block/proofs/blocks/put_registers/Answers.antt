@@ -19,6 +19,6 @@ returns c =
     let g = s.args.registers in
     let x = c.put_register in
     let y = c.put_register-2 in
-    two_parts s.args.octets.now x.new.1.0 y.new.1.0 8 16 s.requires (omega arith) (ap length x.ensures ∙ eight _ _) (ap length y.ensures ∙ eight _ _)
+    two_parts s.args.octets.now x.new.octets y.new.octets 8 16 s.requires (omega arith) (ap length x.ensures ∙ eight _ _) (ap length y.ensures ∙ eight _ _)
     ∙ ap₂ (λ (p q : List ℕ). p ++ q) x.ensures y.ensures
     ∙ append_assoc (big_endian 4 g.slots.mask) (big_endian 4 g.slots.start) (big_endian 4 g.tmcc.mask ++ big_endian 4 g.tmcc.start)

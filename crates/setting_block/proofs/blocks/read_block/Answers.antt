@@ -4,29 +4,29 @@ use borrow.Author.Rules.{rules}
 use borrow.Author.Tests.{eq-eqb, ne_eqb}
 use Rattle.setting_block.specs.Layout.{edition}
 use Rattle.setting_block.specs.Blocks.{setting_number, block_number}
-use Rattle.setting_block.proofs.blocks.read_block.Goals.{After-setting_number-number}
-use Rattle.setting_block.proofs.blocks.read_block.Lts.View.{up-After-setting_number-number}
 use Rattle.setting_block.proofs.blocks.read_block.Goals as goal
 
--- the number that was found behind the block's own tests
-found : (c : After-setting_number-number) → let b = c.args.block.now in
-    c.setting_number-number.result ≡ block_number edition b
+pub returns-then-number-ne0 : goal.returns-then-number-ne0
 unfolding block_number
-found c =
+returns-then-number-ne0 c =
+    let found : (let b = c.args.block.now in c.setting_number-number.result ≡ block_number edition b) =
     let t = c in
     c.setting_number-number.ensures
     ∙ ap₂ setting_number c.plan_in-plan.ensures c.registers_in-registers.ensures
-    ∙ rw (sym t.block_ok.ensures ∙ t.if-block_ok.true)
-
-pub returns-then-number-ne0 : goal.returns-then-number-ne0
-returns-then-number-ne0 c =
+    ∙ rw (sym t.block_ok.ensures ∙ t.if-block_ok.true) in
     let d = c in
-    c.no_settings.ensures ∙ rw (← found (up-After-setting_number-number _ _ _ c.before.before.before), ne_eqb _ 0 c.if-number-ne0.true)
+    c.no_settings.ensures ∙ rw (← found, ne_eqb _ 0 c.if-number-ne0.true)
 
 pub returns-then-block_ok : goal.returns-then-block_ok
+unfolding block_number
 returns-then-block_ok c =
+    let found : (let b = c.args.block.now in c.setting_number-number.result ≡ block_number edition b) =
+    let t = c in
+    c.setting_number-number.ensures
+    ∙ ap₂ setting_number c.plan_in-plan.ensures c.registers_in-registers.ensures
+    ∙ rw (sym t.block_ok.ensures ∙ t.if-block_ok.true) in
     let d = c in
-    rw (← found (up-After-setting_number-number _ _ _ c.before.before), eq-eqb _ 0 c.if-number-ne0.false, d.plan_in-plan.ensures, d.registers_in-registers.ensures)
+    rw (← found, eq-eqb _ 0 c.if-number-ne0.false, d.plan_in-plan.ensures, d.registers_in-registers.ensures)
 
 pub returns : goal.returns
 unfolding block_number

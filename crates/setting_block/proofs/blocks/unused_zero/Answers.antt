@@ -12,7 +12,7 @@ use Rattle.setting_block.proofs.blocks.unused_zero.Goals as goal
 
 pub returns-then-used-lt24 : goal.returns-then-used-lt24
 returns-then-used-lt24 c =
-    let n = c.number_of_lem in
+    let n = c.number_of-count in
     let s = c in
     let b = s.args.block.now in
     let e = n.ensures ∙ field_number b s.requires (layout edition).count (omega arith) in
@@ -22,7 +22,7 @@ returns-then-used-lt24 c =
 
 pub returns : goal.returns
 returns c =
-    let n = c.number_of_lem in
+    let n = c.number_of-count in
     let s = c in
     let b = s.args.block.now in
     let e = n.ensures ∙ field_number b s.requires (layout edition).count (omega arith) in

@@ -15,7 +15,6 @@ use Rattle.tlv_fill.specs.BeginTurns.{Ahead, ahead_start, ahead_later, report_at
 use Rattle.tlv_fill.specs.Needs.{MarkNeeds}
 use Rattle.tlv_fill.proofs.begins.mark_begins.Invariants.{Found, Inv, found}
 use Rattle.tlv_fill.proofs.begins.mark_begins.Goals.{After-first_begin-h, In-loop-k}
-use Rattle.tlv_fill.proofs.begins.mark_begins.Lts.View.{up-After-first_begin-h, up-In-loop-k}
 use Rattle.tlv_fill.proofs.begins.mark_begins.Goals as goal
 
 -- slot k is one of the slots, so that no sum wraps
@@ -41,9 +40,13 @@ within-at c =
 found_at : (c : After-first_begin-h)
     → Found c.args.packets.now c.args.taken c.args.owed c.loop-k.start c.first_begin-h.result
 found_at c =
+    let within-at : Within c.args.size c.args.packets.now c.args.taken c.args.owed c.loop-k.start =
+    let s = c in
+    let l = c.loop-k in
+    inside s.args.size s.args.packets.now s.args.taken s.args.owed s.args.begins.now l.begins l.k l.start l.h s.requires l.invariant (search rules) in
     let r = c.first_begin-h.ensures in
     let t = c.args.taken in
-    found _ _ _ _ _ _ (within-at (up-In-loop-k _ _ _ _ _ c.before.before.before)).within (ap (λ (x : ℕ). t + x) c.beyond.ensures) r.0 r.1
+    found _ _ _ _ _ _ (within-at).within (ap (λ (x : ℕ). t + x) c.beyond.ensures) r.0 r.1
 
 pub loop-k-init : goal.loop-k-init
 loop-k-init c =
@@ -56,11 +59,20 @@ loop-k-init c =
     }
 
 pub overflow_add-target : goal.overflow_add-target
-overflow_add-target c = let w = within-at (up-In-loop-k _ _ _ _ _ c.before.before) in omega (arith, w.next, w.within, c.beyond.ensures)
+overflow_add-target c =
+    let within-at : Within c.args.size c.args.packets.now c.args.taken c.args.owed c.loop-k.start =
+    let s = c in
+    let l = c.loop-k in
+    inside s.args.size s.args.packets.now s.args.taken s.args.owed s.args.begins.now l.begins l.k l.start l.h s.requires l.invariant (search rules) in
+    let w = within-at in omega (arith, w.next, w.within, c.beyond.ensures)
 
 pub first_begin-h-requires : goal.first_begin-h-requires
 first_begin-h-requires c =
-    let w = within-at (up-In-loop-k _ _ _ _ _ c.before.before) in
+    let within-at : Within c.args.size c.args.packets.now c.args.taken c.args.owed c.loop-k.start =
+    let s = c in
+    let l = c.loop-k in
+    inside s.args.size s.args.packets.now s.args.taken s.args.owed s.args.begins.now l.begins l.k l.start l.h s.requires l.invariant (search rules) in
+    let w = within-at in
     record {
       right = c.requires.right;
       from = rw c.beyond.ensures c.loop-k.invariant.ahead;
@@ -71,7 +83,12 @@ pub overflow_sub-rest : goal.overflow_sub-rest
 overflow_sub-rest c = omega (arith, (found_at c).from)
 
 pub overflow_add-rest : goal.overflow_add-rest
-overflow_add-rest c = let w = within-at (up-In-loop-k _ _ _ _ _ c.before.before.before) in omega (arith, (found_at c).near, w.next, w.few, w.low)
+overflow_add-rest c =
+    let within-at : Within c.args.size c.args.packets.now c.args.taken c.args.owed c.loop-k.start =
+    let s = c in
+    let l = c.loop-k in
+    inside s.args.size s.args.packets.now s.args.taken s.args.owed s.args.begins.now l.begins l.k l.start l.h s.requires l.invariant (search rules) in
+    let w = within-at in omega (arith, (found_at c).near, w.next, w.few, w.low)
 
 pub overflow_sub-rest-in-loop-k : goal.overflow_sub-rest-in-loop-k
 overflow_sub-rest-in-loop-k c = omega (arith, (found_at c).from)
@@ -80,17 +97,30 @@ pub report_of-requires : goal.report_of-requires
 report_of-requires c = c.requires.high
 
 pub overflow_add-start : goal.overflow_add-start
-overflow_add-start c = let w = within-at (up-In-loop-k _ _ _ _ _ c.before.before.before.before) in omega (arith, w.next)
+overflow_add-start c =
+    let within-at : Within c.args.size c.args.packets.now c.args.taken c.args.owed c.loop-k.start =
+    let s = c in
+    let l = c.loop-k in
+    inside s.args.size s.args.packets.now s.args.taken s.args.owed s.args.begins.now l.begins l.k l.start l.h s.requires l.invariant (search rules) in
+    let w = within-at in omega (arith, w.next)
 
 pub loop-k-smaller : goal.loop-k-smaller
 loop-k-smaller c = omega (arith, c.loop-k.invariant.filling.same)
 
 pub loop-k-preserved : goal.loop-k-preserved
 loop-k-preserved c =
+    let within-at : Within c.args.size c.args.packets.now c.args.taken c.args.owed c.loop-k.start =
+    let s = c in
+    let l = c.loop-k in
+    inside s.args.size s.args.packets.now s.args.taken s.args.owed s.args.begins.now l.begins l.k l.start l.h s.requires l.invariant (search rules) in
+    let found_at : Found c.args.packets.now c.args.taken c.args.owed c.loop-k.start c.first_begin-h.result =
+    let r = c.first_begin-h.ensures in
+    let t = c.args.taken in
+    found _ _ _ _ _ _ (within-at).within (ap (λ (x : ℕ). t + x) c.beyond.ensures) r.0 r.1 in
     let l = c.loop-k in
     let s = c in
     let a = s.args in
-    let w = within-at (up-In-loop-k _ _ _ _ _ c.before.before.before.before) in
+    let w = within-at in
     let h = c.first_begin-h.result in
     let r = c.first_begin-h.ensures in
     let p = l.invariant.place in
@@ -100,7 +130,7 @@ loop-k-preserved c =
     = λ z. let m : a.size * 1 ≤ a.size * l.k = mul-le-mul_left a.size z in omega (arith, w.few, w.low) in
     let v : c.report_of.result ≡ get_or (reports a.size (length a.begins.now) a.packets.now a.taken a.owed) l.k 0
     = (rw p at c.report_of.ensures)
-    ∙ report_at a.size l.k a.packets.now a.taken a.owed h later g (omega (arith, (found_at (up-After-first_begin-h _ _ _ _ _ c.before.before)).from))
+    ∙ report_at a.size l.k a.packets.now a.taken a.owed h later g (omega (arith, (found_at).from))
     ∙ sym (reports_at_law a.size (length a.begins.now) a.packets.now a.taken a.owed l.k (omega (arith, l.invariant.filling.same))) in
     record {
       place = omega arith;

@@ -8,7 +8,6 @@ use Rattle.plan.specs.Rates.{data_octets_of}
 use Rattle.tlv.specs.CallLaws.{FillReady, fill_ready, fill_refused, fill_done}
 use Rattle.tlv.specs.Fill.{lacking, reports, taken_after, owed_after}
 use Rattle.tlv_fill.proofs.calls.fill.Goals.{Else-number-ne0}
-use Rattle.tlv_fill.proofs.calls.fill.Lts.View.{up-Else-number-ne0}
 use Rattle.tlv_fill.proofs.calls.fill.Goals as goal
 
 -- what the call had, where it is not refused
@@ -21,7 +20,7 @@ returns-then-number-ne0 c =
     let n = c.fill_number-number in
     let q =
       fill_refused a.rate a.packets.now a.taken a.owed a.slots.now a.begins.now n.result n.ensures c.if-number-ne0.true in
-    record { value = q.0; slots_after = q.1; begins_after = q.2 }
+    record { value = q.0; slots_after = q.1.0; begins_after = q.1.1 }
 
 pub overflow_sub-end : goal.overflow_sub-end
 overflow_sub-end c =
@@ -35,12 +34,14 @@ overflow_add-end c =
 
 pub lay-requires : goal.lay-requires
 lay-requires c =
-    let r = ready (up-Else-number-ne0 _ _ _ c.before.before) in
+    let ready : (let a = c.args in FillReady a.rate a.packets.now a.taken a.owed a.slots.now a.begins.now) = let a = c.args in fill_ready a.rate a.packets.now a.taken a.owed a.slots.now a.begins.now (sym c.fill_number-number.ensures ∙ c.if-number-ne0.false) in
+    let r = ready in
     record { within = r.within; few = r.few; room = omega (arith, r.few, r.lent.least, r.octets.low) }
 
 pub mark_begins-requires : goal.mark_begins-requires
 mark_begins-requires c =
-    let r = ready (up-Else-number-ne0 _ _ _ c.before.before.before.before.before.before.before) in
+    let ready : (let a = c.args in FillReady a.rate a.packets.now a.taken a.owed a.slots.now a.begins.now) = let a = c.args in fill_ready a.rate a.packets.now a.taken a.owed a.slots.now a.begins.now (sym c.fill_number-number.ensures ∙ c.if-number-ne0.false) in
+    let r = ready in
     let e = c.data_octets.ensures in
     record {
       right = r.right;
@@ -54,9 +55,10 @@ mark_begins-requires c =
 pub returns : goal.returns
 unfolding taken_after owed_after
 returns c =
+    let ready : (let a = c.args in FillReady a.rate a.packets.now a.taken a.owed a.slots.now a.begins.now) = let a = c.args in fill_ready a.rate a.packets.now a.taken a.owed a.slots.now a.begins.now (sym c.fill_number-number.ensures ∙ c.if-number-ne0.false) in
     let a = c.args in
     let n = c.fill_number-number in
-    let r = ready (up-Else-number-ne0 _ _ _ c.before.before.before.before.before.before.before.before.before.before.before.before.before) in
+    let r = ready in
     let q =
       fill_done a.rate a.packets.now a.taken a.owed a.slots.now a.begins.now n.result n.ensures c.if-number-ne0.false
       c.fewer.result c.lacking.result _ _
@@ -66,4 +68,4 @@ returns c =
       (c.mark_begins.ensures
       ∙ ap (λ (x : ℕ). reports x (length a.begins.now) a.packets.now a.taken a.owed) c.data_octets.ensures
       ∙ ap (λ (x : ℕ). reports (data_octets_of a.rate) x a.packets.now a.taken a.owed) r.lent.reports) in
-    record { value = q.0; slots_after = q.1; begins_after = q.2 }
+    record { value = q.0; slots_after = q.1.0; begins_after = q.1.1 }

@@ -6,7 +6,7 @@ use native.Mathlib.Nat.{mul-le-mul_left, mul-le-mul_right}
 use native.Mathlib.Omega.{arith}
 use borrow.Author.Rules.{rules}
 use Rattle.tlv_read.specs.SlotTurns.{Silent, silent_start, silent_lost, silent_none, on_here, on_none}
-use Rattle.tlv_read.proofs.slots.next_begin.Goals.{then-lost-k-ne1, else-lost-k-ne1}
+use Rattle.tlv_read.proofs.slots.next_begin.Goals.{then-lost-k-ne1+else-begins-k, else-lost-k-ne1}
 use Rattle.tlv_read.proofs.slots.next_begin.Goals as goal
 
 -- slot k begins inside the slots, of which there are few enough
@@ -59,7 +59,7 @@ pub loop-k-preserved : goal.loop-k-preserved
 loop-k-preserved c =
     let l = c.loop-k in
     elim c.if-lost-k-ne1.branch [
-      | then-lost-k-ne1 w ↦ silent_none _ _ _ _ _ l.k w.if-begins-k.false l.invariant
+      | then-lost-k-ne1+else-begins-k w ↦ silent_none _ _ _ _ _ l.k w.if-begins-k.false l.invariant
       | else-lost-k-ne1 w ↦ silent_lost _ _ _ _ _ l.k w.if-lost-k-ne1.false l.invariant
     ]
 

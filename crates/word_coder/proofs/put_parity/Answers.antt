@@ -9,28 +9,24 @@ use Rattle.lists.specs.PartLaws.{take_lent, put_lent, put_end}
 use Rattle.ldpc.specs.Parity.{parity_of}
 use Rattle.ldpc.specs.ParityLaws.{length_parity_of}
 use Rattle.codeword.specs.Words.{run_bits, parity_input, with_parity}
-use Rattle.word_coder.proofs.put_parity.Statement.{statement}
-use Rattle.word_coder.proofs.put_parity.Tie as tie
+use Rattle.word_coder.proofs.put_parity.Goals as goal
 
-returns : tie.Need-returns
+pub returns : goal.returns
 unfolding with_parity
 returns c =
-    let p = c.before.before in
-    let i = p.before.before.before.before.before in
-    let b = i.before.before.before.before in
-    let s = b.before.before.before.before in
+    let p = c in
+    let i = p in
+    let b = i in
+    let s = b in
     let a = s.args in
     let F = a.shape in
     let u = a.bits.now in
-    let n = b.run-bits.result in
-    let z : n ≡ run_bits F = b.run-bits.ensures in
-    let made = p.parity.new.1.1.1.0 in
+    let n = b.run_bits-run.result in
+    let z : n ≡ run_bits F = b.run_bits-run.ensures in
+    let made = p.parity.new.sums in
     let e : made ≡ parity_of F.rows a.table.now (parity_input F (take (run_bits F) u)) =
-    p.parity.ensures ∙ ap (parity_of F.rows a.table.now) (i.put-input.ensures ∙ ap (parity_input F) (take_lent n (run_bits F) u z)) in
+    p.parity.ensures ∙ ap (parity_of F.rows a.table.now) (i.put_input.ensures ∙ ap (parity_input F) (take_lent n (run_bits F) u z)) in
     let l : n + length made ≡ length u = omega (arith, ap length e ∙ length_parity_of F.rows a.table.now (parity_input F (take (run_bits F) u)), s.requires.fits.whole, s.requires.bits_long) in
     put_lent n (length u) u made (omega arith) (omega arith)
     ∙ put_end n made u l
     ∙ ap₂ (λ (x y : List ℕ). x ++ y) (ap (λ (k : ℕ). take k u) z) e
-
-pub put-parity-spec : {M : Type 1} → statement M
-put-parity-spec = tie.close (tie.spec (λ c κs. search rules) (λ c. search rules) (λ c. search rules) (λ c. search rules) (λ c κs. search rules) (λ c. search rules) (λ c. search rules) (λ c. search rules) (λ c κs. search rules) (λ c. search rules) (λ c. search rules) returns)

@@ -1,0 +1,6 @@
+-- `slot::sizes::shape`: the message is that of the definition.
+use borrow.Author.Rules.{rules}
+use Rattle.slot.proofs.sizes.shape.Goals as goal
+
+pub returns : goal.returns
+returns c = rw c.message_bits-message.ensures
