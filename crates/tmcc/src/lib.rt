@@ -1,4 +1,5 @@
 // TMCC blocks: their sizes, and what coding and reading them test alike.
+#![tactic(auto)]
 ghost use Rattle.std.specs.Prelude.{◌≡◌};
 ghost use Rattle.tmcc.specs.Blocks.{block_shape};
 

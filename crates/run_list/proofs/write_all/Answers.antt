@@ -8,19 +8,13 @@ use Rattle.run_list.specs.Listing.{heading, dummy_total, total_line, list_text}
 use Rattle.run_list.specs.ListingLaws.{length_groups}
 use Rattle.texts.specs.Written.{written_then, written_is}
 use Rattle.run_list.proofs.Sizes.{totals}
-use Rattle.run_list.proofs.write_all.Goals.{After-data_total-data}
 use Rattle.run_list.proofs.write_all.Goals as goal
 
-sums : (c : After-data_total-data)
-    → let p = c.args.plan in
-    (c.data_total-data.result ≤ 120) × (120 - c.data_total-data.result ≡ dummy_total p)
-sums c =
-    let s = c in
-    let t = totals s.args.plan s.requires.plan in
+pub overflow_sub-data : goal.overflow_sub-data
+overflow_sub-data c =
+    let t = totals c.args.plan c.requires.plan in
     let e = c.data_total-data.ensures in
-    (omega arith, omega arith)
-
--- ?? (λ c. omega (arith, sums c))
+    omega arith
 
 pub write_total-requires : goal.write_total-requires
 write_total-requires c =

@@ -14,12 +14,11 @@ use Rattle.dispersal.specs.DispersalLaws.{length_dispersed}
 use Rattle.codeword.specs.Words.{run_bits, register_after}
 use Rattle.codeword.specs.Reading.{taken_off, position_with, checks_number, word_number}
 use Rattle.codeword.specs.ReadingLaws.{taken_off_bits, wrong_few}
-use Rattle.word_reader.proofs.read_word.Goals.{After-disperse-next}
 use Rattle.word_reader.proofs.read_word.Goals as goal
 
 -- the area with dispersal taken off the bits at its head, its length kept
-abbrev left : After-disperse-next → List ℕ
-left c = let w = c in put_mid 0 (w.run_bits-run.result - 0) w.wrong_position-wrong.new.bits c.disperse-next.new.run
+abbrev left : (run : ℕ) (bits off : List ℕ) → List ℕ
+left run bits off = put_mid 0 (run - 0) bits off
 
 pub checks_number-number-requires : goal.checks_number-number-requires
 unfolding taken_off
@@ -29,10 +28,10 @@ checks_number-number-requires c =
     let k = w in
     let g = k.requires.checked.lent in
     omega (arith, k.run_bits-run.ensures, w.wrong_position-wrong.auto.bits, g.fits.whole, g.bits_long) in
-    let kept : length (left c) ≡ length c.wrong_position-wrong.new.bits =
+    let kept : length (left c.run_bits-run.result c.wrong_position-wrong.new.bits c.disperse-next.new.run) ≡ length c.wrong_position-wrong.new.bits =
     let w = c in
     same_len_mid 0 (w.run_bits-run.result - 0) w.wrong_position-wrong.new.bits c.disperse-next.new.run c.disperse-next.auto.run in
-    let plain : (let a = c.args in take (run_bits a.shape) (left c) ≡ taken_off a.shape a.mask a.register a.coded.now) =
+    let plain : (let a = c.args in take (run_bits a.shape) (left c.run_bits-run.result c.wrong_position-wrong.new.bits c.disperse-next.new.run) ≡ taken_off a.shape a.mask a.register a.coded.now) =
     let w = c in
     let k = w in
     let a = k.args in
@@ -49,11 +48,11 @@ checks_number-number-requires c =
     let s = k in
     let a = s.args in
     let n = k.run_bits-run.result in
-    let h : n ≤ length (left d) = omega (arith, room, kept) in
+    let h : n ≤ length (left c.run_bits-run.result c.wrong_position-wrong.new.bits c.disperse-next.new.run) = omega (arith, room, kept) in
     record {
       fits = s.requires.checked.lent.fits;
-      long = length-take-le (n - 0) (left d) (omega arith) ∙ omega (arith, k.run_bits-run.ensures);
-      bits = rw (take_lent n (run_bits a.shape) (left d) k.run_bits-run.ensures, plain) (taken_off_bits a.shape a.coded.now a.mask a.register);
+      long = length-take-le (n - 0) (left c.run_bits-run.result c.wrong_position-wrong.new.bits c.disperse-next.new.run) (omega arith) ∙ omega (arith, k.run_bits-run.ensures);
+      bits = rw (take_lent n (run_bits a.shape) (left c.run_bits-run.result c.wrong_position-wrong.new.bits c.disperse-next.new.run) k.run_bits-run.ensures, plain) (taken_off_bits a.shape a.coded.now a.mask a.register);
     }
 
 pub position_with-requires : goal.position_with-requires
@@ -72,7 +71,7 @@ returns c =
     let k = w in
     let g = k.requires.checked.lent in
     omega (arith, k.run_bits-run.ensures, w.wrong_position-wrong.auto.bits, g.fits.whole, g.bits_long) in
-    let plain : (let a = c.args in take (run_bits a.shape) (left c) ≡ taken_off a.shape a.mask a.register a.coded.now) =
+    let plain : (let a = c.args in take (run_bits a.shape) (left c.run_bits-run.result c.wrong_position-wrong.new.bits c.disperse-next.new.run) ≡ taken_off a.shape a.mask a.register a.coded.now) =
     let w = c in
     let k = w in
     let a = k.args in
@@ -89,7 +88,7 @@ returns c =
     let w = d in
     let k = w in
     let F = k.args.shape in
-    c.checks_number-number.ensures ∙ ap₂ (checks_number F) w.wrong_position-wrong.ensures.value (take_lent k.run_bits-run.result (run_bits F) (left d) k.run_bits-run.ensures ∙ plain) in
+    c.checks_number-number.ensures ∙ ap₂ (checks_number F) w.wrong_position-wrong.ensures.value (take_lent k.run_bits-run.result (run_bits F) (left c.run_bits-run.result c.wrong_position-wrong.new.bits c.disperse-next.new.run) k.run_bits-run.ensures ∙ plain) in
     let n = c in
     let d = n in
     let w = d in
