@@ -1,4 +1,5 @@
 // Reading a slot.
+#![tactic(auto)]
 mod reader;
 mod received;
 

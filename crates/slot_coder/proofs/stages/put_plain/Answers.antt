@@ -34,7 +34,7 @@ ends c =
     }
 
 -- the area as each call leaves it, with its length kept
-abbrev first : After-expand → List ℕ
+abbrev first : (c : After-expand) → List ℕ
 first c =
     let b = c in
     put_mid 0 (b.message_bits-message.result - 0) b.args.bits.now c.expand.new.bits
@@ -44,11 +44,14 @@ once c =
     let b = c in
     same_len_mid 0 (b.message_bits-message.result - 0) b.args.bits.now c.expand.new.bits c.expand.auto.bits
 
-abbrev second : After-of_octets → List ℕ
+abbrev second : (c : After-of_octets) → List ℕ
 second c =
+    let first : List ℕ =
+    let b = c in
+    put_mid 0 (b.message_bits-message.result - 0) b.args.bits.now c.expand.new.bits in
     let x = c in
     let m = x.message_bits-message.result in
-    put_mid m (m + 192 - m) (first x) c.of_octets.new.bch
+    put_mid m (m + 192 - m) (first) c.of_octets.new.bch
 
 pub overflow_add-stuff : goal.overflow_add-stuff
 overflow_add-stuff c = omega (arith, ends c)
@@ -83,7 +86,10 @@ slice_bounds-of_octets-end c =
       octets = omega (arith, z.source, s.requires.source_long);
       small = omega (arith, s.requires.bits_long, z.covered, z.all);
     } in
-    let once : length (first c) ≡ length c.args.bits.now =
+    let first : List ℕ =
+    let b = c in
+    put_mid 0 (b.message_bits-message.result - 0) b.args.bits.now c.expand.new.bits in
+    let once : length (first) ≡ length c.args.bits.now =
     let b = c in
     same_len_mid 0 (b.message_bits-message.result - 0) b.args.bits.now c.expand.new.bits c.expand.auto.bits in
     let x = c in
@@ -100,13 +106,16 @@ of_octets-requires c =
       octets = omega (arith, z.source, s.requires.source_long);
       small = omega (arith, s.requires.bits_long, z.covered, z.all);
     } in
-    let once : length (first c) ≡ length c.args.bits.now =
+    let first : List ℕ =
+    let b = c in
+    put_mid 0 (b.message_bits-message.result - 0) b.args.bits.now c.expand.new.bits in
+    let once : length (first) ≡ length c.args.bits.now =
     let b = c in
     same_len_mid 0 (b.message_bits-message.result - 0) b.args.bits.now c.expand.new.bits c.expand.auto.bits in
     let x = c in
     let b = x in
     let m = b.message_bits-message.result in
-    length_part m (m + 192) (first x) (omega (arith, once, (ends).run)) ∙ omega arith
+    length_part m (m + 192) (first) (omega (arith, once, (ends).run)) ∙ omega arith
 
 pub slice_bounds-fill-count : goal.slice_bounds-fill-count
 slice_bounds-fill-count c =
@@ -136,13 +145,20 @@ slice_bounds-fill-start c =
 
 pub slice_bounds-fill-end : goal.slice_bounds-fill-end
 slice_bounds-fill-end c =
-    let once : length (first c) ≡ length c.args.bits.now =
+    let first : List ℕ =
+    let b = c in
+    put_mid 0 (b.message_bits-message.result - 0) b.args.bits.now c.expand.new.bits in
+    let once : length (first) ≡ length c.args.bits.now =
     let b = c in
     same_len_mid 0 (b.message_bits-message.result - 0) b.args.bits.now c.expand.new.bits c.expand.auto.bits in
-    let twice : length (second c) ≡ length c.args.bits.now =
+    let second : List ℕ =
     let x = c in
     let m = x.message_bits-message.result in
-    same_len_mid m (m + 192 - m) (first x) c.of_octets.new.bch c.of_octets.auto.bch ∙ once in
+    put_mid m (m + 192 - m) (first) c.of_octets.new.bch in
+    let twice : length (second) ≡ length c.args.bits.now =
+    let x = c in
+    let m = x.message_bits-message.result in
+    same_len_mid m (m + 192 - m) (first) c.of_octets.new.bch c.of_octets.auto.bch ∙ once in
     omega (arith, twice)
 
 pub returns : goal.returns
@@ -157,13 +173,20 @@ returns c =
       octets = omega (arith, z.source, s.requires.source_long);
       small = omega (arith, s.requires.bits_long, z.covered, z.all);
     } in
-    let once : length (first c) ≡ length c.args.bits.now =
+    let first : List ℕ =
     let b = c in
-    same_len_mid 0 (b.message_bits-message.result - 0) b.args.bits.now c.expand.new.bits c.expand.auto.bits in
-    let twice : length (second c) ≡ length c.args.bits.now =
+    put_mid 0 (b.message_bits-message.result - 0) b.args.bits.now c.expand.new.bits in
+    let second : List ℕ =
     let x = c in
     let m = x.message_bits-message.result in
-    same_len_mid m (m + 192 - m) (first x) c.of_octets.new.bch c.of_octets.auto.bch ∙ once in
+    put_mid m (m + 192 - m) (first) c.of_octets.new.bch in
+    let once : length (first) ≡ length c.args.bits.now =
+    let b = c in
+    same_len_mid 0 (b.message_bits-message.result - 0) b.args.bits.now c.expand.new.bits c.expand.auto.bits in
+    let twice : length (second) ≡ length c.args.bits.now =
+    let x = c in
+    let m = x.message_bits-message.result in
+    same_len_mid m (m + 192 - m) (first) c.of_octets.new.bch c.of_octets.auto.bch ∙ once in
     let f = c in
     let y = f in
     let x = y in
@@ -172,7 +195,7 @@ returns c =
     let e = ends in
     let m = b.message_bits-message.result in
     let end = length a.bits.now in
-    let n : length (take (end - (m + 192)) (drop (m + 192) (second y))) ≡ 6 = length_part (m + 192) end (second y) (omega (arith, twice)) ∙ omega (arith, e.run) in
+    let n : length (take (end - (m + 192)) (drop (m + 192) (second))) ≡ 6 = length_part (m + 192) end (second) (omega (arith, twice)) ∙ omega (arith, e.run) in
     let i : x.expand.new.bits ≡ bits_of a.source.now = x.expand.ensures in
     let j : y.of_octets.new.bch ≡ bch_bits (bits_of a.source.now) = y.of_octets.ensures in
     let k : f.fill.new.to ≡ replicate 6 1 = f.fill.ensures ∙ ap (λ (l : ℕ). replicate l 1) n in

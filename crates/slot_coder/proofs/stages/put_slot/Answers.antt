@@ -30,7 +30,7 @@ room c =
     record { is_run = e; within = omega (arith, e, z.covered, z.all, s.requires.bits_long); input = omega (arith, z.rows, z.all) }
 
 -- the area with the plain bits at its head, its length kept
-abbrev headed : After-put_plain → List ℕ
+abbrev headed : (c : After-put_plain) → List ℕ
 headed c =
     let b = c in
     put_mid 0 (b.run_bits-run.result - 0) b.args.bits.now c.put_plain.new.bits
@@ -85,7 +85,10 @@ put_word-requires c =
     let z = sizes s.args.rows s.requires.rows in
     let e : c.run_bits-run.result ≡ run_bits (slot_shape s.args.rows) = c.run_bits-run.ensures ∙ ap run_bits c.shape-shape.ensures in
     record { is_run = e; within = omega (arith, e, z.covered, z.all, s.requires.bits_long); input = omega (arith, z.rows, z.all) } in
-    let kept : length (headed c) ≡ length c.args.bits.now =
+    let headed : List ℕ =
+    let b = c in
+    put_mid 0 (b.run_bits-run.result - 0) b.args.bits.now c.put_plain.new.bits in
+    let kept : length (headed) ≡ length c.args.bits.now =
     let b = c in
     same_len_mid 0 (b.run_bits-run.result - 0) b.args.bits.now c.put_plain.new.bits c.put_plain.auto.bits in
     let p = c in
@@ -103,7 +106,10 @@ put_word-requires c =
 pub returns : goal.returns
 unfolding slot_of word_of sent
 returns c =
-    let plain-held : (let a = c.args in take (run_bits (slot_shape a.rows)) (headed c) ≡ plain (bits_of a.source.now) stuff_bits) =
+    let headed : List ℕ =
+    let b = c in
+    put_mid 0 (b.run_bits-run.result - 0) b.args.bits.now c.put_plain.new.bits in
+    let plain-held : (let a = c.args in take (run_bits (slot_shape a.rows)) (headed) ≡ plain (bits_of a.source.now) stuff_bits) =
     let b = c in
     let s = b in
     let a = s.args in
@@ -118,4 +124,4 @@ returns c =
     let s = b in
     let a = s.args in
     let e = b.shape-shape.ensures in
-    let v : take (run_bits (slot_shape a.rows)) (headed p) ≡ plain (bits_of a.source.now) stuff_bits = plain-held in record { value = w.put_word.ensures.value ∙ ap (λ (F : Shape). registerAfterWord F a.mask a.register) e ∙ register_after_law a.rows a.mask a.register s.requires.rows; coded_after = w.put_word.ensures.coded_after ∙ rw (e, v) }
+    let v : take (run_bits (slot_shape a.rows)) (headed) ≡ plain (bits_of a.source.now) stuff_bits = plain-held in record { value = w.put_word.ensures.value ∙ ap (λ (F : Shape). registerAfterWord F a.mask a.register) e ∙ register_after_law a.rows a.mask a.register s.requires.rows; coded_after = w.put_word.ensures.coded_after ∙ rw (e, v) }
