@@ -1,4 +1,5 @@
 // Coding a whole frame, slot by slot.
+#![tactic(auto)]
 mod code;
 
 pub use code::code_frame;

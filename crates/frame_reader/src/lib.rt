@@ -1,4 +1,5 @@
 // Reading a whole frame, slot by slot.
+#![tactic(auto)]
 mod read;
 
 pub use read::read_frame;

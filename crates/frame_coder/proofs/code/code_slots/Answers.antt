@@ -21,15 +21,9 @@ use Rattle.frame.specs.FrameLaws.{source_from_none, source_from_more, source_fro
 use Rattle.frame.specs.PlacedLaws.{placed_at}
 use Rattle.frame.specs.Needs.{Framed}
 use Rattle.frame_coder.specs.Needs.{Coding}
-use Rattle.frame_coder.proofs.code.code_slots.Statement.{statement}
-use Rattle.frame_coder.proofs.code.code_slots.Tie as tie
-
--- the first k slots are coded
-record Inv (p : Plan) (mask start : ℕ) (ts source found area : List ℕ) (s : FrameState) (from k : ℕ) : Type 0 where
-  few : k ≤ 120
-  state_is : s ≡ state_before p mask start k
-  from_is : from ≡ source_from p k
-  filling : Filling (frame_of p ts mask start source found) found (slot_octets * k) area
+use Rattle.frame_coder.proofs.code.code_slots.Invariants.{Inv}
+use Rattle.frame_coder.proofs.code.code_slots.Goals.{After-slot_octets}
+use Rattle.frame_coder.proofs.code.code_slots.Goals as goal
 
 module _ {p : Plan} {mask start : ℕ} {ts ends source found : List ℕ} (q : Framed p mask start ts ends source found) where
   abbrev goal : List ℕ
@@ -79,75 +73,75 @@ module _ {p : Plan} {mask start : ℕ} {ts ends source found : List ℕ} (q : Fr
           filling = filling_part goal found (slot_octets * k) area i.filling (slot_octets * (k + 1)) ys (omega arith) (omega (arith, q.lent.frame_long)) d;
         }
 
-abbrev invariant-loop : tie.invariant-loop
-invariant-loop plan mask start tables ends source frame₀ state₀ from₀ k₀ frame state from k = Inv plan mask start tables source frame₀ frame state from k
+-- the two parts that are lent lie within their areas
+lies : (c : After-slot_octets)
+    → let l = c.loop-k in
+    let a = c.args in
+    (l.from + c.slot_octets.result ≤ length a.source.now) × (slot_octets * (l.k + 1) ≤ length l.frame)
+lies c =
+    let l = c.loop-k in
+    let s = c in (
+      within s.requires l.invariant (omega (arith, c.loop-k-test.true)) c.slot_octets.ensures,
+      omega (arith, c.loop-k-test.true, l.invariant.filling.same, s.requires.lent.frame_long),
+    )
 
-abbrev decreases-loop : tie.decreases-loop
-decreases-loop plan mask start tables ends source frame₀ state₀ from₀ k₀ frame state from k = 120 - k
+pub loop-k-init : goal.loop-k-init
+loop-k-init c = none c.requires c.open-opened.ensures
 
-loop-holds : tie.Need-loop-init invariant-loop decreases-loop
-loop-holds c = none c.before.before.before.before.before.before.requires c.before.open.ensures
-
-slot-octets-requires : tie.Need-slot-octets-requires invariant-loop decreases-loop
-slot-octets-requires c κs =
-    let s = c.before.before.before.before.before.before.before.before in
+pub slot_octets-requires : goal.slot_octets-requires
+slot_octets-requires c =
+    let s = c in
     let a = s.args in
     record { plan = (open_sound a.plan a.mask a.start s.requires.lent.opened).plan; low = omega arith; high = omega arith }
 
--- the two parts that are lent lie within their areas
-lies : (c : tie.After-slot-octets invariant-loop decreases-loop)
-    → let l = c.before.before.loop in
-    let a = c.before.before.before.before.before.before.before.before.before.args in
-    (l.from + c.slot-octets.result ≤ length a.source.now) × (slot_octets * (l.k + 1) ≤ length l.frame)
-lies c =
-    let l = c.before.before.loop in
-    let s = c.before.before.before.before.before.before.before.before.before in (
-      within s.requires l.invariant (omega (arith, c.before.loop-test.true)) c.slot-octets.ensures,
-      omega (arith, c.before.loop-test.true, l.invariant.filling.same, s.requires.lent.frame_long),
-    )
+pub overflow_add-to : goal.overflow_add-to
+overflow_add-to c = let h = lies c in search rules
 
-code-place-requires : tie.Need-code-place-requires invariant-loop decreases-loop
-code-place-requires c κs =
-    let o = c.before.before in
-    let l = o.before.before.loop in
-    let s = o.before.before.before.before.before.before.before.before.before in
-    coding s.requires l.invariant (omega (arith, o.before.loop-test.true)) o.slot-octets.ensures
+pub slice_bounds-code_place-count : goal.slice_bounds-code_place-count
+slice_bounds-code_place-count c = omega arith
 
-loop-again : tie.Need-loop-preserved invariant-loop decreases-loop
-loop-again c =
-    let w = c.before.before in
-    let o = w.before.before.before in
-    let l = o.before.before.loop in
-    let s = o.before.before.before.before.before.before.before.before.before in
-    more s.requires l.invariant (omega (arith, o.before.loop-test.true)) o.slot-octets.ensures w.code-place.ensures.0 w.code-place.ensures.1
+pub slice_bounds-code_place-start : goal.slice_bounds-code_place-start
+slice_bounds-code_place-start c = omega arith
 
-returns : tie.Need-returns invariant-loop decreases-loop
+pub slice_bounds-code_place-end : goal.slice_bounds-code_place-end
+slice_bounds-code_place-end c = omega (arith, lies c)
+
+pub slice_bounds-code_place-count-in-loop-k : goal.slice_bounds-code_place-count-in-loop-k
+slice_bounds-code_place-count-in-loop-k c = omega arith
+
+pub slice_bounds-code_place-start-in-loop-k : goal.slice_bounds-code_place-start-in-loop-k
+slice_bounds-code_place-start-in-loop-k c = omega arith
+
+pub slice_bounds-code_place-end-in-loop-k : goal.slice_bounds-code_place-end-in-loop-k
+slice_bounds-code_place-end-in-loop-k c =
+    let lies : (let l = c.loop-k in let a = c.args in (l.from + c.slot_octets.result ≤ length a.source.now) × (slot_octets * (l.k + 1) ≤ length l.frame)) =
+    let l = c.loop-k in
+    let s = c in (
+      within s.requires l.invariant (omega (arith, c.loop-k-test.true)) c.slot_octets.ensures,
+      omega (arith, c.loop-k-test.true, l.invariant.filling.same, s.requires.lent.frame_long),
+    ) in
+    omega (arith, lies)
+
+pub code_place-state-requires : goal.code_place-state-requires
+code_place-state-requires c =
+    let o = c in
+    let l = o.loop-k in
+    let s = o in
+    coding s.requires l.invariant (omega (arith, o.loop-k-test.true)) o.slot_octets.ensures
+
+pub loop-k-preserved : goal.loop-k-preserved
+loop-k-preserved c =
+    let w = c in
+    let o = w in
+    let l = o.loop-k in
+    let s = o in
+    more s.requires l.invariant (omega (arith, o.loop-k-test.true)) o.slot_octets.ensures w.code_place-state.ensures.value w.code_place-state.ensures.coded_after
+
+pub shape_of-frame : goal.shape_of-frame
+shape_of-frame c = c.loop-k.invariant.filling.same
+
+pub returns : goal.returns
 returns c =
-    let l = c.before.loop in
-    let s = c.before.before.before.before.before.before.before.before in
-    filling_all _ _ (slot_octets * l.k) l.frame l.invariant.filling (omega (arith, c.loop-test.false, s.requires.lent.frame_long))
-
-pub code-slots-spec : {M : Type 1} → statement M
-code-slots-spec =
-    tie.close
-    (tie.spec
-    invariant-loop
-    decreases-loop
-    (λ c κs. search rules)
-    loop-holds
-    (λ c. search rules)
-    (λ c. search rules)
-    (λ c. search rules)
-    slot-octets-requires
-    (λ c. let h = lies c in search rules)
-    (λ c. omega arith)
-    (λ c. omega arith)
-    (λ c. omega (arith, lies c))
-    (λ c. omega arith)
-    (λ c. omega arith)
-    (λ c. omega (arith, lies c.before))
-    code-place-requires
-    (λ c. search rules)
-    loop-again
-    (λ c. c.before.loop.invariant.filling.same)
-    returns)
+    let l = c.loop-k in
+    let s = c in
+    filling_all _ _ (slot_octets * l.k) l.frame l.invariant.filling (omega (arith, c.loop-k-test.false, s.requires.lent.frame_long))

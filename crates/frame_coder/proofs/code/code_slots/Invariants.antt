@@ -1,0 +1,37 @@
+-- `frame_coder::code_slots`: the frame is filled slot by slot, with the state and the place in the source that belong to each.
+use mathlib.Core.Path.{◌≡◌, sym, ap, ◌∙◌}
+use mathlib.Core.List.{List}
+use Prim.Native.Nat.{ℕ, ◌+◌, ◌*◌, ◌-◌, ◌<◌, ◌≤◌}
+use native.Mathlib.Omega.{arith}
+use borrow.Author.Rules.{rules}
+use borrow.Rule.Slice.PartMut.{put_mid}
+use lib.ListN.{length, take}
+use Rattle.lists.specs.Parts.{part}
+use Rattle.lists.specs.Filling.{Filling}
+use Rattle.lists.specs.FillingLaws.{filling_none, filling_rest, filling_part, filling_all}
+use Rattle.plan.specs.declared.Plan.{Plan}
+use Rattle.plan.specs.declared.FrameState.{FrameState}
+use Rattle.plan.specs.declared.Answer.{Answer}
+use Rattle.plan.specs.Sizes.{slot_octets}
+use Rattle.plan.specs.States.{opened}
+use Rattle.plan.specs.StateLaws.{open_sound}
+use Rattle.frame.specs.Steps.{coded_at, state_after}
+use Rattle.frame.specs.Frames.{state_before, slot_in, octets_of_slot, source_from, source_in, frame_of}
+use Rattle.frame.specs.FrameLaws.{source_from_none, source_from_more, source_from_mono, first_state, state_more, length_slot_in, length_frame_of, slot_at}
+use Rattle.frame.specs.PlacedLaws.{placed_at}
+use Rattle.frame.specs.Needs.{Framed}
+use Rattle.frame_coder.specs.Needs.{Coding}
+use Rattle.frame_coder.proofs.code.code_slots.Given as goal
+
+-- the first k slots are coded
+pub record Inv (p : Plan) (mask start : ℕ) (ts source found area : List ℕ) (s : FrameState) (from k : ℕ) : Type 0 where
+  pub few : k ≤ 120
+  pub state_is : s ≡ state_before p mask start k
+  pub from_is : from ≡ source_from p k
+  pub filling : Filling (frame_of p ts mask start source found) found (slot_octets * k) area
+
+abbrev pub invariant-loop-k : goal.invariant-loop-k
+invariant-loop-k l = Inv l.plan l.mask l.start l.tables l.source l.initial.frame l.frame l.state l.from l.k
+
+abbrev pub decreases-loop-k : goal.decreases-loop-k
+decreases-loop-k l = 120 - l.k

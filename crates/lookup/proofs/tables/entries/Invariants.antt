@@ -1,0 +1,22 @@
+-- `lookup::entries`: the numbers of the tables passed, none of which has more than 510.
+use mathlib.Core.Path.{◌≡◌, sym, ap, ◌∙◌}
+use Prim.Native.Nat.{ℕ, ◌*◌, ◌-◌, ◌≤◌}
+use native.Mathlib.Omega.{arith}
+use borrow.Author.Rules.{rules}
+use Rattle.plan.specs.declared.Plan.{Plan}
+use Rattle.plan.specs.PlanLaws.{accepted}
+use Rattle.lookup.specs.LookupLaws.{table_start, start_none, start_more, start_all}
+use Rattle.lookup.proofs.tables.entries.Given as goal
+
+pub record Inv (p : Plan) (count sum g : ℕ) : Type 0 where
+  pub all : count ≡ p.count
+  pub few : count ≤ 8
+  pub passed : g ≤ count
+  pub small : sum ≤ 510 * g
+  pub sum_is : sum ≡ table_start p g
+
+abbrev pub invariant-loop-g : goal.invariant-loop-g
+invariant-loop-g l = Inv l.plan l.count l.sum l.g
+
+abbrev pub decreases-loop-g : goal.decreases-loop-g
+decreases-loop-g l = l.count - l.g
