@@ -26,8 +26,8 @@ use Rattle.frame_coder.proofs.code.code_slots.Goals.{After-slot_octets}
 use Rattle.frame_coder.proofs.code.code_slots.Goals as goal
 
 module _ {p : Plan} {mask start : ℕ} {ts ends source found : List ℕ} (q : Framed p mask start ts ends source found) where
-  abbrev goal : List ℕ
-  goal = frame_of p ts mask start source found
+  abbrev coded_area : List ℕ
+  coded_area = frame_of p ts mask start source found
 
   -- no slot is coded yet
   none : {r : Answer} → r ≡ opened p mask start → Inv p mask start ts source found found r.state 0 0
@@ -36,7 +36,7 @@ module _ {p : Plan} {mask start : ℕ} {ts ends source found : List ℕ} (q : Fr
         few = omega arith;
         state_is = ap (λ a. a.state) e ∙ first_state p mask start q.lent.opened;
         from_is = sym (source_from_none p);
-        filling = filling_none goal found (length_frame_of p ts mask start source found q.lent.frame_long ∙ sym q.lent.frame_long);
+        filling = filling_none coded_area found (length_frame_of p ts mask start source found q.lent.frame_long ∙ sym q.lent.frame_long);
       }
 
   -- one slot more, with n header and data octets
@@ -51,7 +51,7 @@ module _ {p : Plan} {mask start : ℕ} {ts ends source found : List ℕ} (q : Fr
     source_part = rw (to_is, i.from_is)
 
     area_part : part (slot_octets * k) (slot_octets * (k + 1)) area ≡ slot_in found k
-    area_part = ap (take (slot_octets * (k + 1) - slot_octets * k)) (filling_rest goal found (slot_octets * k) area i.filling)
+    area_part = ap (take (slot_octets * (k + 1) - slot_octets * k)) (filling_rest coded_area found (slot_octets * k) area i.filling)
 
     coding : Coding s ts ends (part from (from + n) source) (part (slot_octets * k) (slot_octets * (k + 1)) area)
     coding =
@@ -64,13 +64,13 @@ module _ {p : Plan} {mask start : ℕ} {ts ends source found : List ℕ} (q : Fr
     more : {r : FrameState} {ys : List ℕ} → r ≡ state_after s → ys ≡ coded_at s ts (part from (from + n) source) (part (slot_octets * k) (slot_octets * (k + 1)) area)
         → Inv p mask start ts source found (put_mid (slot_octets * k) (slot_octets * (k + 1) - slot_octets * k) area ys) r (from + n) (k + 1)
     more {ys = ys} u v =
-        let d : ys ≡ slot_in goal k
+        let d : ys ≡ slot_in coded_area k
         = v ∙ rw (i.state_is, source_part, area_part) (sym (slot_at p ts mask start source found q.lent.frame_long k h)) in
         record {
           few = omega arith;
           state_is = u ∙ ap state_after i.state_is ∙ state_more p mask start k;
           from_is = to_is;
-          filling = filling_part goal found (slot_octets * k) area i.filling (slot_octets * (k + 1)) ys (omega arith) (omega (arith, q.lent.frame_long)) d;
+          filling = filling_part coded_area found (slot_octets * k) area i.filling (slot_octets * (k + 1)) ys (omega arith) (omega (arith, q.lent.frame_long)) d;
         }
 
 -- the two parts that are lent lie within their areas

@@ -34,6 +34,11 @@ returns c =
     let number_is : (let a = c.args in c.frame_number-number.result ≡ read_frame_number a.plan a.mask a.start a.tables.now (length a.source.now) (length a.frame.now) (length a.answers.now) (length a.stuff.now) (length a.positions.now)) = rw c.each_slot-each.ensures at c.frame_number-number.ensures.value in
     let r = c in
     let o = r in
-    let q =
-      (sym (sym (number_is) ∙ o.if-number-ne0.false), r.read_slots.ensures) in
-    record { value = q.0; source_after = q.1.0; answers_after = q.1.1.0; stuff_after = q.1.1.1.0; positions_after = q.1.1.1.1 }
+    let e = r.read_slots.ensures in
+    record {
+      value = sym (sym (number_is) ∙ o.if-number-ne0.false);
+      source_after = e.source_after;
+      answers_after = e.answers_after;
+      stuff_after = e.stuff_after;
+      positions_after = e.positions_after;
+    }

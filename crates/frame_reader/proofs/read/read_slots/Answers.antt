@@ -101,7 +101,7 @@ turn_at c =
 pub loop-k-init : goal.loop-k-init
 loop-k-init c =
     let s = c in
-    none_passed _ _ _ _ _ _ _ _ _ _ s.requires _ (ap (λ r. r.state) c.«open».ensures)
+    none_passed _ _ _ _ _ _ _ _ _ _ s.requires _ (ap (λ r. r.state) c.open-opened.ensures)
 
 pub slot_octets-requires : goal.slot_octets-requires
 slot_octets-requires c =
@@ -184,7 +184,7 @@ loop-k-preserved c =
     turn _ _ _ _ _ _ _ _ _ _ s.requires _ _ _ _ _ _ _ _ l.invariant (omega arith) (ap (λ (n : ℕ). l.from + n) c.slot_octets.ensures) in
     let r = c in
     let e = r.read_place-read.ensures in
-    (turn_at).more _ _ _ _ _ e.0.0 e.0.1 e.0.2 e.0.3 e.1
+    (turn_at).more _ _ _ _ _ e.number_value.0 e.number_value.1 e.number_value.2 e.number_value.3 e.source_after
 
 pub shape_of-source : goal.shape_of-source
 shape_of-source c = c.loop-k.invariant.sources.same
