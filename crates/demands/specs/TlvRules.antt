@@ -16,7 +16,7 @@ use Rattle.tlv.specs.FillLaws.{length_reports, owed_small, owed_behind, taken_wi
 use Rattle.tlv.specs.Read.{lost_slot, Reading, read, start}
 use Rattle.tlv.specs.Sent.{sent_packets, sent_cut}
 use Rattle.tlv.specs.Calls.{slots_of, slots_ok, taken_ok, fill_lent, fill_number, fill_answer, fill_slots, fill_begins, place_ok, read_ok, read_number, read_answer, read_packets, reading_of}
-use Rattle.tlv.specs.CallLaws.{Slots, slots_are, FillReady, fill_ready, fill_accepted, ReadReady, read_ready, read_accepted, reports_inside, all_hold}
+use Rattle.tlv.specs.CallLaws.{Slots, slots_are, FillReady, fill_ready, fill_accepted, ReadReady, read_ready, read_accepted, reports_inside, all_hold_law}
 use Rattle.tlv.specs.TripLaws.{round_trip, plain_all}
 use Rattle.tlv.specs.SlotLaws.{read_same}
 use Rattle.tlv.specs.LostLaws.{start_heard, read_heard}
@@ -208,7 +208,7 @@ module _ (rate : ℕ) (packets : List ℕ) (taken owed : ℕ) (slots begins lost
       go (yes e) = or_true (ltb f (data_octets_of rate)) (eqb f none) (eq-eqb f none e)
       go (no n) =
           ap (place_ok (data_octets_of rate)) (from n)
-          ∙ all_hold (place_ok (data_octets_of rate)) told (reports_inside (data_octets_of rate) (slots_of rate slots) packets taken owed) 0
+          ∙ all_hold_law (place_ok (data_octets_of rate)) told (reports_inside (data_octets_of rate) (slots_of rate slots) packets taken owed) 0
           (omega (arith, told_long, filling.lent.some, filling.lent.reports))
 
   taken_in : ReadReady rate received told lost f (length area)
