@@ -6,11 +6,11 @@ use native.Mathlib.Omega.{arith}
 use lib.Arith.{digits_lt}
 use lib.Pow.{shl_lt, pow_mono}
 use Rattle.bch.specs.Polynomials.{◌⊕◌}
-use Rattle.bch.specs.PolynomialLaws.{padd_comm, padd_assoc, padd_lt, padd_power, padd_block, padd_shifted}
+use Rattle.bch.proofs.PolynomialLaws.{padd_comm, padd_assoc, padd_lt, padd_power, padd_block, padd_shifted}
 use Rattle.bch.specs.Division.{remainder}
-use Rattle.bch.specs.DivisionLaws.{remainder_is, remainder_same, remainder_small, remainder_padd}
+use Rattle.bch.proofs.DivisionLaws.{remainder_is, remainder_same, remainder_small, remainder_padd}
 use Rattle.bch.specs.Bch.{generator}
-use Rattle.bch.specs.GeneratorLaws.{generator_top}
+use Rattle.bch.proofs.GeneratorLaws.{generator_top}
 use Rattle.bch.specs.Words.{in_words}
 
 -- a remainder r times the power w, with x of w bits behind it: h is moved out above the power n, s is left below

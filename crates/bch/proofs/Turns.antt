@@ -17,12 +17,12 @@ use Rattle.bits.specs.Octets.{bits_of}
 use Rattle.bits.specs.OctetLaws.{bits_of_at}
 use Rattle.bits.specs.DigitParts.{digits_above}
 use Rattle.bch.specs.Polynomials.{◌⊕◌, polynomial_of}
-use Rattle.bch.specs.PolynomialLaws.{padd_none}
+use Rattle.bch.proofs.PolynomialLaws.{padd_none}
 use Rattle.bch.specs.Division.{remainder, remainder_of}
-use Rattle.bch.specs.DivisionLaws.{remainder_is}
-use Rattle.bch.specs.MessageLaws.{remainder_of_append, remainder_of_same}
+use Rattle.bch.proofs.DivisionLaws.{remainder_is}
+use Rattle.bch.proofs.MessageLaws.{remainder_of_append, remainder_of_same}
 use Rattle.bch.specs.Bch.{generator}
-use Rattle.bch.specs.GeneratorLaws.{generator_top}
+use Rattle.bch.proofs.GeneratorLaws.{generator_top}
 use Rattle.bch.specs.Words.{in_words}
 
 taken_number : (n : ℕ) (u : List ℕ) → n ≤ length u → number (length (take n u)) (take n u) ≡ number n u

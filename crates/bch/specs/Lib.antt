@@ -1,10 +1,5 @@
 pub mod Polynomials
-pub mod PolynomialLaws
 pub mod Division
-pub mod DivisionLaws
-pub mod MessageLaws
 pub mod Bch
-pub mod GeneratorLaws
-pub mod BchLaws
 pub mod Words
 pub mod Needs

@@ -1,10 +1,4 @@
 pub mod Words
-pub mod WordLaws
 pub mod Reading
-pub mod ReadingLaws
-pub mod AnswerLaws
-pub mod RoundTrips
-pub mod DemandThree
 pub mod Calls
-pub mod CallLaws
 pub mod Needs

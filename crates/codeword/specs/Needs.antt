@@ -1,11 +1,20 @@
 -- What the functions ask of their arguments, and what reading leaves.
-use Rattle.std.specs.Prelude.{◌≡◌, true, List, ℕ, ◌*◌, ◌^◌, ◌<◌, length, take}
+use Rattle.std.specs.Prelude.{◌≡◌, true, List, ℕ, ◌*◌, ◌^◌, ◌<◌, length, take, ◌+◌, ◌≤◌}
 use Rattle.lists.specs.Runs.{Bits}
 use Rattle.parity_table.specs.Tables.{positions, table_ok}
 use Rattle.codeword.specs.declared.Shape.{Shape}
 use Rattle.codeword.specs.Words.{run_bits, register_after}
-use Rattle.codeword.specs.WordLaws.{Fits}
 use Rattle.codeword.specs.Reading.{taken_off, wrong_position, position_with, word_number}
+
+-- sizes that add up: the parity input has 374 bits a row, and the word is whole octets
+pub record Fits (F : Shape) : Type 0 where
+  pub wide : 1 ≤ F.width
+  pub narrow : F.width ≤ 25
+  pub some : 1 ≤ F.rows
+  pub few : F.rows ≤ 119
+  pub input : F.before + (run_bits F + F.behind) ≡ 374 * F.rows
+  pub whole : run_bits F + positions F.rows ≡ 8 * F.octets
+
 
 -- the bits before the parity, and an area for the parity input
 pub record Input (F : Shape) (run input : List ℕ) : Type 0 where

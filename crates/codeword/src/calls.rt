@@ -1,7 +1,7 @@
 // What a call on a codeword tests of what it is lent.
 ghost use Rattle.std.specs.Prelude.{◌≡◌};
 ghost use Rattle.codeword.specs.Calls.{lent_number};
-ghost use Rattle.codeword.specs.WordLaws.{Fits};
+ghost use Rattle.codeword.specs.Needs.{Fits};
 
 use crate::Shape;
 

@@ -1,7 +1,7 @@
 // The sizes of a codeword's parts.
 ghost use Rattle.std.specs.Prelude.{◌≡◌};
 ghost use Rattle.codeword.specs.Words.{run_bits};
-ghost use Rattle.codeword.specs.WordLaws.{Fits};
+ghost use Rattle.codeword.specs.Needs.{Fits};
 
 use crate::Shape;
 

@@ -4,13 +4,3 @@ pub mod CardRequests
 pub mod StuffRequests
 pub mod PointRequests
 pub mod PositionRequests
-pub mod DemandTwo
-pub mod DemandThree
-pub mod WorkedByHand
-pub mod PlanRules
-pub mod TlvRules
-pub mod ParitySteps
-pub mod CardRules
-pub mod StuffRules
-pub mod PointRules
-pub mod PositionRules

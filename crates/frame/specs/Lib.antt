@@ -1,11 +1,5 @@
 pub mod Tables
-pub mod TableLaws
 pub mod Steps
-pub mod StepLaws
 pub mod Frames
-pub mod FrameLaws
-pub mod CallLaws
 pub mod Walks
-pub mod SlotBySlot
 pub mod Needs
-pub mod PlacedLaws

@@ -4,10 +4,19 @@ use Rattle.plan.specs.Records.{plan_in}
 use Rattle.plan.specs.declared.Plan.{Plan}
 use Rattle.plan.specs.declared.FrameState.{FrameState}
 use Rattle.plan.specs.Plans.{plan_number}
-use Rattle.plan.specs.StateLaws.{Ready}
+use Rattle.plan.specs.Needs.{Ready}
 use Rattle.frame.specs.Tables.{table_from, tables_ok}
-use Rattle.frame.specs.Frames.{octets_of_slot}
-use Rattle.frame.specs.CallLaws.{Lent}
+use Rattle.frame.specs.Frames.{octets_of_slot, source_from}
+use Rattle.plan.specs.Sizes.{frame_octets}
+use Rattle.plan.specs.States.{open_number}
+
+-- an accepted plan with its settings and tables, and areas of these lengths
+pub record Lent (p : Plan) (mask start : ℕ) (ts : List ℕ) (source frame : ℕ) : Type 0 where
+  pub opened : open_number p mask start ≡ 0
+  pub source_long : source ≡ source_from p 120
+  pub frame_long : frame ≡ frame_octets
+  pub tables : tables_ok p ts ≡ true
+
 
 -- where each group's table begins, and where the last one ends
 abbrev pub Ends : Plan → List ℕ → List ℕ → Type 0

@@ -13,7 +13,7 @@ use Rattle.lists.specs.Runs.{Octets}
 use Rattle.lists.specs.RunLaws.{below_append, below_part}
 use Rattle.lists.specs.PartLaws.{length_part}
 use Rattle.plan.specs.Rates.{rate_ok, data_octets_of, packets_of}
-use Rattle.plan.specs.RateLaws.{rate_sizes}
+use Rattle.plan.proofs.RateLaws.{rate_sizes}
 use Rattle.refusal.specs.Answers.{BackAgain}
 use Rattle.packets.specs.Packets.{sync_octet, carried, packed, restored, unpacked, begins_sync, size_number, pack_number, unpack_number}
 use Rattle.lists.specs.Pieces.{length_pieces, pieces_at, pieces_whole}

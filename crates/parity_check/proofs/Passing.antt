@@ -10,12 +10,12 @@ use Rattle.lists.specs.Count.{sum}
 use Rattle.lists.specs.CountLaws.{sum_none}
 use Rattle.parity_table.specs.Tables.{positions, row_start, table_ok}
 use Rattle.ldpc.specs.Parity.{spacing, times, parity_of}
-use Rattle.ldpc.specs.ParityLaws.{running_sum, get_or_parity_of}
+use Rattle.ldpc.proofs.ParityLaws.{running_sum, get_or_parity_of}
 use Rattle.ldpc.specs.Stepping.{row_stepped, times_stepped}
-use Rattle.ldpc.specs.SteppedParityLaws.{times_stepped_more, times_stepped_law}
+use Rattle.ldpc.proofs.SteppedParityLaws.{times_stepped_more, times_stepped_law}
 use Rattle.ldpc.specs.Columns.{across}
 use Rattle.ldpc.specs.Needs.{Added, AddedBySteps}
-use Rattle.ldpc.specs.AddedLaws.{carry_more, sum_at_law}
+use Rattle.ldpc.proofs.AddedLaws.{carry_more, sum_at_law}
 use Rattle.parity_check.specs.Check.{next_place}
 use Rattle.parity_check.specs.CheckLaws.{place_none, place_next}
 

@@ -10,9 +10,9 @@ use Rattle.lists.specs.ChoiceLaws.{clash}
 use Rattle.lists.specs.CountLaws.{first_first, first_is}
 use Rattle.parity_table.specs.Tables.{positions}
 use Rattle.ldpc.specs.Parity.{parity_of}
-use Rattle.ldpc.specs.ParityLaws.{length_parity_of}
+use Rattle.ldpc.proofs.ParityLaws.{length_parity_of}
 use Rattle.ldpc.specs.Columns.{across}
-use Rattle.ldpc.specs.ColumnLaws.{across_at}
+use Rattle.ldpc.proofs.ColumnLaws.{across_at}
 use Rattle.parity_check.specs.Check.{lowest_wrong, next_place}
 
 -- position 0 stands at place 0

@@ -2,10 +2,6 @@ pub mod Needs
 pub mod Sizes
 pub mod Records
 pub mod Rates
-pub mod RateLaws
 pub mod Plans
-pub mod PlanLaws
 pub mod Places
-pub mod PlaceLaws
 pub mod States
-pub mod StateLaws

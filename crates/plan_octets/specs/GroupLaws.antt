@@ -10,9 +10,9 @@ use Rattle.lists.specs.CountLaws.{get_or_table, joined_same}
 use Rattle.lists.specs.Parts.{part}
 use Rattle.lists.specs.Pieces.{length_pieces, pieces_at, pieces_whole}
 use Rattle.plan.specs.declared.Plan.{Plan}
-use Rattle.plan.specs.RateLaws.{between}
+use Rattle.plan.proofs.RateLaws.{between}
 use Rattle.plan.specs.Plans.{modulation_of, rate_of, slots_of, plan_number}
-use Rattle.plan.specs.PlanLaws.{accepted, group_values, before_more, before_mono, plan_same}
+use Rattle.plan.proofs.PlanLaws.{accepted, group_values, before_more, before_mono, plan_same}
 use Rattle.plan_octets.specs.Groups.{column, of_octets, used, group_of, groups_of, unused_zero}
 use Rattle.plan_octets.specs.Needs.{Fits}
 

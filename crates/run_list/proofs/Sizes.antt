@@ -5,8 +5,8 @@ use native.Mathlib.Omega.{arith}
 use Rattle.lists.specs.CountLaws.{sum_add, sum_same}
 use Rattle.plan.specs.declared.Plan.{Plan}
 use Rattle.plan.specs.Plans.{modulation_of, rate_of, slots_of, slots_before, plan_number, data_slots_of}
-use Rattle.plan.specs.PlanLaws.{accepted, group_values, before_more, before_mono, data_within}
-use Rattle.plan.specs.RateLaws.{between}
+use Rattle.plan.proofs.PlanLaws.{accepted, group_values, before_more, before_mono, data_within}
+use Rattle.plan.proofs.RateLaws.{between}
 use Rattle.run_list.specs.Listing.{data_total, dummy_total}
 
 pub record Sizes (p : Plan) (g : ℕ) : Type 0 where

@@ -23,7 +23,7 @@ use Rattle.dispersal.specs.Register.{mask_ok, register_ok, settings_ok}
 use Rattle.plan.specs.declared.Plan.{Plan}
 use Rattle.plan.specs.Sizes.{slot_width, block_width}
 use Rattle.plan.specs.Plans.{plan_number}
-use Rattle.plan.specs.PlanLaws.{accepted}
+use Rattle.plan.proofs.PlanLaws.{accepted}
 use Rattle.plan_octets.specs.Groups.{of_octets, group_of, groups_of, unused_zero}
 use Rattle.plan_octets.specs.GroupLaws.{read_written, written_read, unused_zeros, unused_same}
 use Rattle.setting_block.specs.declared.Registers.{Registers}

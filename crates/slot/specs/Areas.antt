@@ -1,13 +1,9 @@
 -- The areas that reading a slot is lent, for its bits, its parity input and its sums at any rate, and the parts of them
 -- that a codeword of the slot's rate takes.
-use Rattle.std.specs.Prelude.{◌≡◌, true, List, ℕ, ◌*◌, ◌-◌, length, take}
-use Rattle.std.proofs.Common.{◌∙◌, arith, length-take-le}
+use Rattle.std.specs.Prelude.{◌≡◌, true, List, ℕ, length}
 use Rattle.parity_table.specs.Tables.{table_ok}
-use Rattle.plan.specs.RateLaws.{Rows}
+use Rattle.plan.specs.Needs.{Rows}
 use Rattle.plan.specs.Sizes.{slot_bits, slot_octets, most_parity}
-use Rattle.codeword.specs.Needs.{Checked as CheckedWord}
-use Rattle.slot.specs.Slots.{slot_shape}
-use Rattle.slot.specs.SlotLaws.{fits}
 
 -- a slot's octets and an accepted table, and areas for its bits, its parity input and its sums at any rate
 pub record Checked (R : ℕ) (t coded bits input sums : List ℕ) : Type 0 where
@@ -17,13 +13,3 @@ pub record Checked (R : ℕ) (t coded bits input sums : List ℕ) : Type 0 where
   pub bits_long : length bits ≡ slot_bits
   pub input_long : length input ≡ slot_bits
   pub sums_long : length sums ≡ most_parity
-
-pub areas : (R : ℕ) (t coded bits input sums : List ℕ) → Checked R t coded bits input sums
-    → CheckedWord (slot_shape R) t coded bits (take (374 * R - 0) input) (take (374 * (120 - R) - 0) sums)
-areas R t coded bits input sums c =
-    let w = c.rate in
-    record {
-      lent = record { fits = fits R w; table = c.table; bits_long = c.bits_long; room = length-take-le (374 * R - 0) input (omega (arith, w.high, c.input_long)) ∙ omega arith };
-      sums_long = length-take-le (374 * (120 - R) - 0) sums (omega (arith, w.low, c.sums_long)) ∙ omega arith;
-      coded_long = c.whole;
-    }

@@ -1,6 +1,6 @@
 // How many bits and octets the parts of a slot have, for the row count of a known rate.
 ghost use Rattle.std.specs.Prelude.{◌≡◌};
-ghost use Rattle.plan.specs.RateLaws.{Rows};
+ghost use Rattle.plan.specs.Needs.{Rows};
 ghost use Rattle.slot.specs.Slots.{message_bits, source_octets, slot_shape};
 
 use codeword::Shape;

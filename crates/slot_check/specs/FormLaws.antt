@@ -7,11 +7,11 @@ use Rattle.refusal.specs.Numbers.{PLAN, LENGTH, TABLE}
 use Rattle.parity_table.specs.Tables.{table_ok}
 use Rattle.plan.specs.Rates.{rate_ok, rows_of}
 use Rattle.plan.specs.Sizes.{slot_octets}
-use Rattle.codeword.specs.AnswerLaws.{answer_refused, answer_looked}
+use Rattle.codeword.proofs.AnswerLaws.{answer_refused, answer_looked}
 use Rattle.codeword.specs.Reading.{no_position}
 use Rattle.slot.specs.Reading.{checked_answer}
 use Rattle.slot.specs.Calls.{form_number, check_number, check_answer}
-use Rattle.slot.specs.CallLaws.{form_earlier}
+use Rattle.slot.proofs.CallLaws.{form_earlier}
 
 -- what a number 0 says of the rate, the slot and the table
 pub record Formed (rate : ℕ) (t c : List ℕ) : Type 0 where

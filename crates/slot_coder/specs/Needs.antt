@@ -1,7 +1,7 @@
 -- What the stages ask of their arguments.
 use Rattle.std.specs.Prelude.{◌≡◌, true, List, ℕ, ◌^◌, ◌<◌, length}
 use Rattle.parity_table.specs.Tables.{table_ok}
-use Rattle.plan.specs.RateLaws.{Rows}
+use Rattle.plan.specs.Needs.{Rows}
 use Rattle.plan.specs.Sizes.{slot_bits, slot_octets, slot_width}
 use Rattle.codeword.specs.Words.{run_bits}
 use Rattle.slot.specs.Slots.{source_octets, slot_shape}

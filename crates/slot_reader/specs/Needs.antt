@@ -2,7 +2,7 @@
 use Rattle.std.specs.Prelude.{◌≡◌, List, ℕ, ◌^◌, ◌<◌, eqb, length}
 use Rattle.lists.specs.Choice.{pick}
 use Rattle.lists.specs.Runs.{Bits}
-use Rattle.plan.specs.RateLaws.{Rows}
+use Rattle.plan.specs.Needs.{Rows}
 use Rattle.plan.specs.Sizes.{slot_width}
 use Rattle.codeword.specs.Words.{run_bits}
 use Rattle.codeword.specs.Reading.{position_with}

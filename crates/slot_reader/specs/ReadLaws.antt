@@ -5,12 +5,12 @@ use borrow.Author.Tests.{eq-eqb, ne_eqb}
 use Rattle.lists.specs.Choice.{pick}
 use Rattle.lists.specs.ChoiceLaws.{then_first, then_next}
 use Rattle.plan.specs.declared.FrameState.{FrameState}
-use Rattle.codeword.specs.AnswerLaws.{earlier_position}
+use Rattle.codeword.proofs.AnswerLaws.{earlier_position}
 use Rattle.codeword.specs.Reading.{position_with}
 use Rattle.slot.specs.declared.SlotRead.{SlotRead}
 use Rattle.slot.specs.Reading.{received_number, stuff_in, stuff_with, not_read, source_of, failing_in}
 use Rattle.slot.specs.Calls.{rows_at, slot_number, next_state, read_number, read_answer, read_area}
-use Rattle.slot.specs.CallLaws.{slot_earlier}
+use Rattle.slot.proofs.CallLaws.{slot_earlier}
 
 -- an answer is its number, its state, its stuff bits and its position
 pub answer≡ : {m n : ℕ} {s t : FrameState} {u v x y : ℕ} → m ≡ n → s ≡ t → u ≡ v → x ≡ y

@@ -8,7 +8,8 @@ use native.Mathlib.Omega.{arith}
 use lib.ListN.{length}
 use Rattle.plan.specs.Sizes.{slot_bits, slot_octets, block_bits, block_octets}
 use Rattle.plan.specs.Rates.{symbols_of}
-use Rattle.plan.specs.RateLaws.{Between, between}
+use Rattle.plan.specs.Needs.{Between}
+use Rattle.plan.proofs.RateLaws.{between}
 use Rattle.symbols.specs.CallLaws.{Lengths, SlotReady, slot_whole}
 use Rattle.symbols.specs.Labels.{block_labels, labels_of_octets, octets_of_labels}
 use Rattle.symbols.specs.Needs.{Areas}

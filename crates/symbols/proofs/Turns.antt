@@ -14,7 +14,7 @@ use Rattle.lists.specs.CountLaws.{length_table, get_or_table, table_is, table_sa
 use Rattle.lists.specs.Runs.{Bits}
 use Rattle.bits.specs.Digits.{digits, number}
 use Rattle.bits.specs.DigitLaws.{length_digits, number_none, number_more, number_lt}
-use Rattle.plan.specs.RateLaws.{Between}
+use Rattle.plan.specs.Needs.{Between}
 use Rattle.symbols.specs.Index.{bit_at, stride_of, row_of, place_of}
 use Rattle.symbols.specs.IndexLaws.{bit_below, bit_one, bit_there, bit_stepped, stride_small, row_below, place_below}
 use Rattle.symbols.specs.Labels.{bits_of_row, labels_of, bits_of_labels}

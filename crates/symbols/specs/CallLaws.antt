@@ -9,7 +9,7 @@ use Rattle.lists.specs.CountLaws.{every_at, every_all}
 use Rattle.lists.specs.Runs.{Octets}
 use Rattle.plan.specs.Sizes.{slot_octets, block_octets}
 use Rattle.plan.specs.Rates.{rate_ok, modulation_ok, symbols_of}
-use Rattle.plan.specs.RateLaws.{symbols_whole}
+use Rattle.plan.proofs.RateLaws.{symbols_whole}
 use Rattle.refusal.specs.Answers.{BackAgain}
 use Rattle.symbols.specs.Index.{right_to_left}
 use Rattle.symbols.specs.Labels.{block_labels, labels_of_octets, octets_of_labels, labels_of_slot, slot_of_labels, labels_of_block, block_of_labels, length_number, label_number, slot_number, slot_of_labels_number, block_number, block_of_labels_number}

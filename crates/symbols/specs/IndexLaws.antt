@@ -6,7 +6,7 @@ use Rattle.std.proofs.Math.Arith.{digits_lt, digits_div, digits_mod}
 use Rattle.lists.specs.Choice.{pick}
 use Rattle.lists.specs.Count.{table}
 use Rattle.plan.specs.Rates.{symbols_of}
-use Rattle.plan.specs.RateLaws.{Between}
+use Rattle.plan.specs.Needs.{Between}
 use Rattle.symbols.specs.Index.{in_order, right_to_left, column_of, bit_at, stride_of, row_of, place_of}
 
 -- a column is one of m

@@ -3,7 +3,7 @@ use Rattle.std.specs.Prelude.{◌≡◌, List, ℕ, ◌+◌, ◌*◌, ◌/◌, �
 use Rattle.lists.specs.Count.{table}
 use Rattle.lists.specs.Runs.{Bits}
 use Rattle.plan.specs.Sizes.{slot_bits}
-use Rattle.plan.specs.RateLaws.{Between}
+use Rattle.plan.specs.Needs.{Between}
 
 -- place k of s labels under modulation m
 pub record PlaceOf (m s k : ℕ) : Type 0 where

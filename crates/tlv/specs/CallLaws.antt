@@ -11,7 +11,7 @@ use Rattle.lists.specs.Count.{every, first}
 use Rattle.lists.specs.CountLaws.{every_at, every_all, every_not}
 use Rattle.refusal.specs.Numbers.{PLAN, LENGTH, PACKET}
 use Rattle.plan.specs.Rates.{rate_ok, data_bits_of, data_octets_of}
-use Rattle.plan.specs.RateLaws.{rate_rows}
+use Rattle.plan.proofs.RateLaws.{rate_rows}
 use Rattle.tlv.specs.declared.ReadAnswer.{ReadAnswer}
 use Rattle.tlv.specs.Packets.{packets_ok}
 use Rattle.tlv.specs.Fill.{none, stream_begins, filled, report, reports, taken_after, owed_after}

@@ -1,6 +1,2 @@
 pub mod Blocks
-pub mod BlockLaws
 pub mod Calls
-pub mod CallLaws
-pub mod RoundTrips
-pub mod DemandThree

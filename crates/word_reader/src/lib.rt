@@ -3,7 +3,7 @@
 ghost use Rattle.std.specs.Prelude.{◌≡◌};
 ghost use Rattle.bits.specs.Octets.{bits_of};
 ghost use Rattle.codeword.specs.Reading.{wrong_position, parity_number, checks_number};
-ghost use Rattle.codeword.specs.WordLaws.{Fits};
+ghost use Rattle.codeword.specs.Needs.{Fits};
 ghost use Rattle.codeword.specs.Needs.{Checked, Received, Run, ReadOf};
 
 use codeword::Shape;

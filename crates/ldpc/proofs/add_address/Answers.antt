@@ -5,7 +5,7 @@ use native.Mathlib.Omega.{arith}
 use lib.ListN.{length}
 use borrow.Author.Rules.{rules}
 use Rattle.lists.specs.PartLaws.{length_part}
-use Rattle.ldpc.specs.StepLaws.{turn_below}
+use Rattle.ldpc.proofs.StepLaws.{turn_below}
 use Rattle.ldpc.proofs.Turning.{column_ends, address_added}
 use Rattle.ldpc.proofs.add_address.Goals.{Start}
 use Rattle.ldpc.proofs.add_address.Goals as goal

@@ -8,7 +8,7 @@ use lib.Seq.{length-take-le}
 use borrow.Author.Rules.{rules}
 use Rattle.parity_table.specs.Tables.{positions}
 use Rattle.parity_table.specs.Needs.{Rows}
-use Rattle.ldpc.specs.SteppedParityLaws.{parity_stepped_law}
+use Rattle.ldpc.proofs.SteppedParityLaws.{parity_stepped_law}
 use Rattle.ldpc.proofs.parity.Goals as goal
 
 lent : (rows : ℕ) (xs sums : List ℕ) → Rows rows → length sums ≡ positions rows → length xs ≡ 44506 → length (take (length sums - 0) xs) ≡ positions rows

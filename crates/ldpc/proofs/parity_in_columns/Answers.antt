@@ -3,7 +3,7 @@ use mathlib.Core.Path.{ap, ◌∙◌}
 use Prim.Native.Nat.{ℕ}
 use lib.ListN.{replicate}
 use borrow.Author.Rules.{rules}
-use Rattle.ldpc.specs.AddedLaws.{coded}
+use Rattle.ldpc.proofs.AddedLaws.{coded}
 use Rattle.ldpc.proofs.parity_in_columns.Goals as goal
 
 pub returns : goal.returns

@@ -11,10 +11,10 @@ use borrow.Author.Rules.{rules}
 use Rattle.lists.specs.Count.{sum}
 use Rattle.lists.specs.CountLaws.{sum_none, table_is}
 use Rattle.ldpc.specs.Parity.{running}
-use Rattle.ldpc.specs.ParityLaws.{running_sum}
+use Rattle.ldpc.proofs.ParityLaws.{running_sum}
 use Rattle.ldpc.specs.Columns.{across, sum_at}
-use Rattle.ldpc.specs.ColumnLaws.{across_at, across_below}
-use Rattle.ldpc.specs.AddedLaws.{carry_more}
+use Rattle.ldpc.proofs.ColumnLaws.{across_at, across_below}
+use Rattle.ldpc.proofs.AddedLaws.{carry_more}
 use Rattle.ldpc.proofs.run_sums.Invariants.{Inner, Outer, Run}
 use Rattle.ldpc.proofs.run_sums.Goals.{In-loop-c}
 use Rattle.ldpc.proofs.run_sums.Goals as goal

@@ -12,11 +12,11 @@ use Rattle.parity_table.specs.Tables.{positions, row_start, table_ok}
 use Rattle.parity_table.specs.TableLaws.{Row, row_start_none, row_start_more, row_at}
 use Rattle.ldpc.specs.Parity.{spacing}
 use Rattle.ldpc.specs.Stepping.{row_stepped, times_stepped}
-use Rattle.ldpc.specs.SteppedParityLaws.{row_stepped_none, row_stepped_more, times_stepped_none}
+use Rattle.ldpc.proofs.SteppedParityLaws.{row_stepped_none, row_stepped_more, times_stepped_none}
 use Rattle.ldpc.specs.Columns.{across}
-use Rattle.ldpc.specs.ColumnLaws.{place_below}
+use Rattle.ldpc.proofs.ColumnLaws.{place_below}
 use Rattle.ldpc.specs.Needs.{Added, AddedBySteps}
-use Rattle.ldpc.specs.AddedLaws.{added_none, added_then}
+use Rattle.ldpc.proofs.AddedLaws.{added_none, added_then}
 use Rattle.parity_check.specs.CheckLaws.{lowest_wrong_is}
 use Rattle.parity_check.proofs.Passing.{Passed, times_stepped_next, added_rows, passed_none, parity_at, passed_more}
 use Rattle.parity_check.proofs.lowest_wrong.Invariants.{AtAddress, AtBit, AtRow}

@@ -5,7 +5,7 @@ use native.Mathlib.Omega.{arith}
 use borrow.Author.Rules.{rules}
 use Rattle.lists.specs.Count.{sum}
 use Rattle.lists.specs.CountLaws.{sum_none, sum_more}
-use Rattle.plan.specs.PlanLaws.{accepted}
+use Rattle.plan.proofs.PlanLaws.{accepted}
 use Rattle.plan.specs.Plans.{data_slots_of}
 use Rattle.run_list.specs.Listing.{data_total}
 use Rattle.run_list.proofs.Sizes.{Sizes, sizes}

@@ -3,7 +3,7 @@ use mathlib.Core.Path.{◌≡◌, ap₂}
 use Prim.Native.Nat.{◌-◌, ◌≤◌}
 use native.Mathlib.Omega.{arith}
 use borrow.Author.Rules.{rules}
-use Rattle.plan.specs.PlanLaws.{accepted}
+use Rattle.plan.proofs.PlanLaws.{accepted}
 use Rattle.run_list.specs.Listing.{heading, dummy_total, total_line, list_text}
 use Rattle.run_list.specs.ListingLaws.{length_groups}
 use Rattle.texts.specs.Written.{written_then, written_is}

@@ -10,7 +10,7 @@ use lib.Dec.{leb}
 use Rattle.lists.specs.Choice.{pick}
 use Rattle.plan.specs.declared.Plan.{Plan}
 use Rattle.plan.specs.Plans.{slots_before, modulation_of, rate_of, slots_of, data_slots_of}
-use Rattle.plan.specs.PlanLaws.{before_more}
+use Rattle.plan.proofs.PlanLaws.{before_more}
 use Rattle.plan.specs.Places.{run_first, run_last}
 use Rattle.run_list.specs.Listing.{kind_word, run_line, run_text, group_text}
 use Rattle.run_list.specs.ListingLaws.{length_run_text}

@@ -8,7 +8,7 @@ use Rattle.lists.specs.Count.{joined}
 use Rattle.lists.specs.CountLaws.{joined_none, joined_more}
 use Rattle.plan.specs.declared.Plan.{Plan}
 use Rattle.plan.specs.Plans.{slots_before}
-use Rattle.plan.specs.PlanLaws.{accepted, before_none, before_more}
+use Rattle.plan.proofs.PlanLaws.{accepted, before_none, before_more}
 use Rattle.run_list.specs.Listing.{group_text}
 use Rattle.run_list.specs.ListingLaws.{length_groups}
 use Rattle.texts.specs.Written.{Written, written_none, written_then, written_is}

@@ -7,7 +7,7 @@ use borrow.Author.Tests.{ne_eqb}
 use lib.ListN.{length}
 use Rattle.lists.specs.PartLaws.{length_part}
 use Rattle.settings.specs.Cards.{read_number, read_answer}
-use Rattle.settings.specs.CardLaws.{There, there}
+use Rattle.settings.proofs.CardLaws.{There, there}
 use Rattle.settings.proofs.read_settings.Goals.{Else-refused-ne0}
 use Rattle.settings.proofs.read_settings.Goals as goal
 

@@ -14,7 +14,7 @@ use Rattle.setting_block.specs.Layout.{edition}
 use Rattle.setting_block.specs.Blocks.{block_of}
 use Rattle.setting_block.specs.BlockLaws.{length_block, sound}
 use Rattle.settings.specs.Cards.{card_number, replace_number, replaced}
-use Rattle.settings.specs.CardLaws.{There, there}
+use Rattle.settings.proofs.CardLaws.{There, there}
 use Rattle.settings.proofs.replace_settings.Goals.{Else-refused-ne0}
 use Rattle.settings.proofs.replace_settings.Goals as goal
 

@@ -3,8 +3,8 @@ use mathlib.Core.Path.{◌≡◌, refl, sym, ap, ◌∙◌}
 use Prim.Native.Nat.{ℕ}
 use borrow.Author.Rules.{rules}
 use lib.ListN.{length-replicate}
-use Rattle.plan.specs.RateLaws.{rate_rows}
-use Rattle.codeword.specs.AnswerLaws.{answer≡}
+use Rattle.plan.proofs.RateLaws.{rate_rows}
+use Rattle.codeword.proofs.AnswerLaws.{answer≡}
 use Rattle.slot.specs.Reading.{checked_answer}
 use Rattle.slot.specs.Calls.{form_number}
 use Rattle.slot_check.specs.FormLaws.{formed, check_refused, check_looked}

@@ -4,12 +4,12 @@ use native.Mathlib.Omega.{arith}
 use borrow.Author.Rules.{rules}
 use Rattle.codeword.specs.declared.Shape.{Shape}
 use Rattle.codeword.specs.Reading.{wrong_position, parity_number, position_with}
-use Rattle.codeword.specs.ReadingLaws.{wrong_few}
-use Rattle.codeword.specs.AnswerLaws.{answer≡}
+use Rattle.codeword.proofs.ReadingLaws.{wrong_few}
+use Rattle.codeword.proofs.AnswerLaws.{answer≡}
 use Rattle.slot.specs.Slots.{slot_shape}
-use Rattle.slot.specs.SlotLaws.{fits}
+use Rattle.slot.proofs.SlotLaws.{fits}
 use Rattle.slot.specs.Reading.{failing_in, checked_number}
-use Rattle.slot.specs.Areas.{areas}
+use Rattle.slot.proofs.AreaLaws.{areas}
 use Rattle.slot_check.proofs.checked.Goals as goal
 
 pub wrong_position-wrong-requires : goal.wrong_position-wrong-requires

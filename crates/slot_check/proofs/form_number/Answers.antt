@@ -7,7 +7,7 @@ use borrow.Author.Rules.{rules}
 use borrow.Author.Tests.{eq-eqb, ne_eqb, not-true, not-false}
 use Rattle.parity_table.specs.Tables.{table_ok}
 use Rattle.plan.specs.Rates.{rate_ok, rows_of}
-use Rattle.plan.specs.RateLaws.{rate_rows}
+use Rattle.plan.proofs.RateLaws.{rate_rows}
 use Rattle.slot.specs.Calls.{form_number}
 use Rattle.slot_check.proofs.form_number.Goals as goal
 

@@ -5,9 +5,9 @@ use borrow.Author.Rules.{rules}
 use lib.ListN.{length-replicate}
 use Rattle.refusal.specs.AnswerLaws.{refused, accepted}
 use Rattle.dispersal.specs.RegisterLaws.{register_is}
-use Rattle.tmcc.specs.BlockLaws.{fits}
+use Rattle.tmcc.proofs.BlockLaws.{fits}
 use Rattle.tmcc.specs.Calls.{code_number}
-use Rattle.tmcc.specs.CallLaws.{codable}
+use Rattle.tmcc.proofs.CallLaws.{codable}
 use Rattle.tmcc_coder.proofs.code_block.Goals as goal
 
 pub returns-then-number-ne0 : goal.returns-then-number-ne0

@@ -6,7 +6,7 @@ use borrow.Author.Tests.{eq-eqb, ne_eqb}
 use lib.ListN.{length}
 use Rattle.lists.specs.ChoiceLaws.{then_first}
 use Rattle.tmcc.specs.Calls.{code_number}
-use Rattle.tmcc.specs.CallLaws.{lent}
+use Rattle.tmcc.proofs.CallLaws.{lent}
 use Rattle.tmcc_coder.specs.TailLaws.{tail_last}
 use Rattle.tmcc_coder.proofs.code_number.Goals as goal
 

@@ -8,9 +8,9 @@ use lib.ListN.{length, take}
 use lib.Seq.{take_at}
 use borrow.Rule.Slice.PartMut.{put_mid, post_of, same_len_mid}
 use Rattle.codeword.specs.Words.{plain, sent, word_of}
-use Rattle.codeword.specs.WordLaws.{length_plain}
+use Rattle.codeword.proofs.WordLaws.{length_plain}
 use Rattle.tmcc.specs.Blocks.{message_of, block_of}
-use Rattle.tmcc.specs.BlockLaws.{message}
+use Rattle.tmcc.proofs.BlockLaws.{message}
 use Rattle.tmcc_coder.proofs.put_block.Goals.{After-put_plain}
 use Rattle.tmcc_coder.proofs.put_block.Goals as goal
 

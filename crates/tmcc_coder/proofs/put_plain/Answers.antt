@@ -12,10 +12,10 @@ use Rattle.lists.specs.PartLaws.{length_part, put_lent, put_end}
 use Rattle.bits.specs.Octets.{bits_of}
 use Rattle.bits.specs.OctetLaws.{length_bits_of}
 use Rattle.bch.specs.Bch.{bch_bits}
-use Rattle.bch.specs.BchLaws.{length_bch_bits}
+use Rattle.bch.proofs.BchLaws.{length_bch_bits}
 use Rattle.codeword.specs.Words.{plain}
 use Rattle.tmcc.specs.Blocks.{message_of}
-use Rattle.tmcc.specs.BlockLaws.{message}
+use Rattle.tmcc.proofs.BlockLaws.{message}
 use Rattle.tmcc_coder.proofs.put_plain.Goals.{After-expand, After-of_bits}
 use Rattle.tmcc_coder.proofs.put_plain.Goals as goal
 

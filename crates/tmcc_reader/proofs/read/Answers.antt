@@ -7,8 +7,8 @@ use borrow.Author.Rules.{rules}
 use lib.Seq.{length-take-le}
 use Rattle.refusal.specs.AnswerLaws.{refused, accepted}
 use Rattle.codeword.specs.Reading.{message_in}
-use Rattle.codeword.specs.ReadingLaws.{taken_off_bits}
-use Rattle.codeword.specs.AnswerLaws.{answer≡}
+use Rattle.codeword.proofs.ReadingLaws.{taken_off_bits}
+use Rattle.codeword.proofs.AnswerLaws.{answer≡}
 use Rattle.codeword.specs.Needs.{ReadOf}
 use Rattle.tmcc.specs.Blocks.{block_shape, tailed, source_of}
 use Rattle.tmcc_reader.proofs.read.Goals.{After-read_word-word}

@@ -6,10 +6,10 @@ use lib.ListN.{length-replicate}
 use Rattle.lists.specs.ChoiceLaws.{then_first, then_next}
 use Rattle.refusal.specs.AnswerLaws.{refused}
 use Rattle.dispersal.specs.RegisterLaws.{register_is}
-use Rattle.codeword.specs.AnswerLaws.{answer≡}
-use Rattle.tmcc.specs.BlockLaws.{fits}
+use Rattle.codeword.proofs.AnswerLaws.{answer≡}
+use Rattle.tmcc.proofs.BlockLaws.{fits}
 use Rattle.tmcc.specs.Calls.{lent_number, read_number}
-use Rattle.tmcc.specs.CallLaws.{lent, read_refused, read_looked}
+use Rattle.tmcc.proofs.CallLaws.{lent, read_refused, read_looked}
 use Rattle.tmcc_reader.proofs.read_block.Goals.{Else-number-ne0}
 use Rattle.tmcc_reader.proofs.read_block.Goals as goal
 

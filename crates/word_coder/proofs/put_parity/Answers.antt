@@ -7,7 +7,7 @@ use borrow.Author.Rules.{rules}
 use lib.ListN.{length, take}
 use Rattle.lists.specs.PartLaws.{take_lent, put_lent, put_end}
 use Rattle.ldpc.specs.Parity.{parity_of}
-use Rattle.ldpc.specs.ParityLaws.{length_parity_of}
+use Rattle.ldpc.proofs.ParityLaws.{length_parity_of}
 use Rattle.codeword.specs.Words.{run_bits, parity_input, with_parity}
 use Rattle.word_coder.proofs.put_parity.Goals as goal
 

@@ -13,7 +13,7 @@ use Rattle.dispersal.specs.Register.{after}
 use Rattle.dispersal.specs.Dispersal.{dispersed}
 use Rattle.dispersal.specs.DispersalLaws.{length_dispersed, dispersed_bits}
 use Rattle.codeword.specs.Words.{run_bits, with_parity, register_after}
-use Rattle.codeword.specs.WordLaws.{length_with_parity, with_parity_bits}
+use Rattle.codeword.proofs.WordLaws.{length_with_parity, with_parity_bits}
 use Rattle.word_coder.proofs.put_word.Goals.{After-disperse-next}
 use Rattle.word_coder.proofs.put_word.Goals as goal
 

@@ -13,7 +13,7 @@ use Rattle.dispersal.specs.Dispersal.{dispersed}
 use Rattle.dispersal.specs.DispersalLaws.{length_dispersed}
 use Rattle.codeword.specs.Words.{run_bits, register_after}
 use Rattle.codeword.specs.Reading.{taken_off, position_with, checks_number, word_number}
-use Rattle.codeword.specs.ReadingLaws.{taken_off_bits, wrong_few}
+use Rattle.codeword.proofs.ReadingLaws.{taken_off_bits, wrong_few}
 use Rattle.word_reader.proofs.read_word.Goals as goal
 
 -- the area with dispersal taken off the bits at its head, its length kept

@@ -2,7 +2,7 @@
 use Prim.Native.Nat.{◌/◌, ◌^◌}
 use native.Mathlib.Omega.{arith}
 use Rattle.bch.specs.Polynomials.{◌⊕◌}
-use Rattle.bch.specs.PolynomialLaws.{padd_lt}
+use Rattle.bch.proofs.PolynomialLaws.{padd_lt}
 use Rattle.bch.proofs.Shifted.{advance_rule}
 use Rattle.bch.proofs.division.advance.Goals as goal
 

@@ -8,7 +8,7 @@ use borrow.Author.Rules.{rules}
 use Rattle.bits.specs.Octets.{bits_of}
 use Rattle.bits.specs.OctetLaws.{length_bits_of, bits_of_bits}
 use Rattle.bch.specs.Division.{remainder_of}
-use Rattle.bch.specs.MessageLaws.{remainder_of_none}
+use Rattle.bch.proofs.MessageLaws.{remainder_of_none}
 use Rattle.bch.specs.Bch.{generator}
 use Rattle.bch.specs.Words.{worth}
 use Rattle.bch.proofs.Turns.{eight_more, octet_number}

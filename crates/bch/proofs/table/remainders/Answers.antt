@@ -3,7 +3,7 @@ use mathlib.Core.Path.{refl}
 use Rattle.lists.specs.Count.{table}
 use Rattle.bch.specs.Polynomials.{◌⊕◌, coefficient}
 use Rattle.bch.specs.Division.{remainder}
-use Rattle.bch.specs.GeneratorLaws.{generator_number}
+use Rattle.bch.proofs.GeneratorLaws.{generator_number}
 use Rattle.bch.specs.Words.{threes}
 use Rattle.bch.proofs.table.remainders.Goals as goal
 

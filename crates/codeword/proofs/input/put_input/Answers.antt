@@ -8,7 +8,7 @@ use lib.ListN.{length, replicate}
 use borrow.Rule.Slice.PartMut.{put_mid, same_len_mid}
 use Rattle.lists.specs.PartLaws.{length_part, three_parts}
 use Rattle.codeword.specs.Words.{zeros, parity_input}
-use Rattle.codeword.specs.WordLaws.{length_zeros}
+use Rattle.codeword.proofs.WordLaws.{length_zeros}
 use Rattle.codeword.proofs.input.put_input.Goals as goal
 
 -- so many zeros

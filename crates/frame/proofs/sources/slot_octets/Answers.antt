@@ -2,10 +2,10 @@
 use mathlib.Core.Path.{◌≡◌, refl, sym, ap, ◌∙◌}
 use borrow.Author.Rules.{rules}
 use Rattle.plan.specs.Rates.{rows_of}
-use Rattle.plan.specs.RateLaws.{rate_rows}
-use Rattle.plan.specs.PlanLaws.{accepted, group_values}
+use Rattle.plan.proofs.RateLaws.{rate_rows}
+use Rattle.plan.proofs.PlanLaws.{accepted, group_values}
 use Rattle.plan.specs.Places.{group_at, carries, place_of}
-use Rattle.plan.specs.PlaceLaws.{group_holds}
+use Rattle.plan.proofs.PlaceLaws.{group_holds}
 use Rattle.slot.specs.Slots.{source_octets}
 use Rattle.frame.specs.Frames.{rows_of_slot, octets_of_slot}
 use Rattle.frame.proofs.sources.slot_octets.Goals.{After-rows}

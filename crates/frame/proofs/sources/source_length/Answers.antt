@@ -5,7 +5,7 @@ use native.Mathlib.Omega.{arith}
 use borrow.Author.Rules.{rules}
 use Rattle.plan.specs.Sizes.{slot_octets}
 use Rattle.frame.specs.Frames.{source_from}
-use Rattle.frame.specs.FrameLaws.{source_from_none, source_from_more, octets_few}
+use Rattle.frame.proofs.FrameLaws.{source_from_none, source_from_more, octets_few}
 use Rattle.frame.proofs.sources.source_length.Goals.{After-slot_octets-sum}
 use Rattle.frame.proofs.sources.source_length.Goals as goal
 

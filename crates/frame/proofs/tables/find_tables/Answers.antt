@@ -13,11 +13,12 @@ use Rattle.lists.specs.PartLaws.{part_rest}
 use Rattle.parity_table.specs.Tables.{table_ok, table_length}
 use Rattle.plan.specs.declared.Plan.{Plan}
 use Rattle.plan.specs.Rates.{rows_of}
-use Rattle.plan.specs.RateLaws.{Rows, rate_rows}
+use Rattle.plan.specs.Needs.{Rows}
+use Rattle.plan.proofs.RateLaws.{rate_rows}
 use Rattle.plan.specs.Plans.{rate_of}
-use Rattle.plan.specs.PlanLaws.{accepted, group_values}
+use Rattle.plan.proofs.PlanLaws.{accepted, group_values}
 use Rattle.frame.specs.Tables.{table_from, table_of}
-use Rattle.frame.specs.TableLaws.{table_from_none, table_from_more, table_from_within, table_here, tables_no, tables_rest}
+use Rattle.frame.proofs.TableLaws.{table_from_none, table_from_more, table_from_within, table_here, tables_no, tables_rest}
 use Rattle.frame.proofs.tables.find_tables.Invariants.{Passed}
 use Rattle.frame.proofs.tables.find_tables.Goals.{After-rows, After-table_length-length, In-loop-g}
 use Rattle.frame.proofs.tables.find_tables.Goals as goal

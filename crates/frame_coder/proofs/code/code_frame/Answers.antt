@@ -4,7 +4,7 @@ use borrow.Author.Rules.{rules}
 use lib.ListN.{length}
 use Rattle.refusal.specs.AnswerLaws.{refused, accepted}
 use Rattle.frame.specs.Frames.{frame_number}
-use Rattle.frame.specs.CallLaws.{frame_lent}
+use Rattle.frame.proofs.CallLaws.{frame_lent}
 use Rattle.frame_coder.proofs.code.code_frame.Goals as goal
 
 pub returns-then-number-ne0 : goal.returns-then-number-ne0

@@ -11,12 +11,12 @@ use Rattle.plan.specs.Records.{plan_in}
 use Rattle.plan.specs.declared.FrameState.{FrameState}
 use Rattle.plan.specs.declared.Answer.{Answer}
 use Rattle.plan.specs.Places.{carries, place_of}
-use Rattle.plan.specs.StateLaws.{ready_yes}
+use Rattle.plan.proofs.StateLaws.{ready_yes}
 use Rattle.slot.specs.Calls.{code_answer, code_area}
 use Rattle.frame.specs.Steps.{coded_at, state_after}
-use Rattle.frame.specs.StepLaws.{coded_dummy}
-use Rattle.frame.specs.PlacedLaws.{Between, between, slot_taken}
-use Rattle.frame.specs.SlotBySlot.{code_answer_law, code_area_law, pass_answer}
+use Rattle.frame.proofs.StepLaws.{coded_dummy}
+use Rattle.frame.proofs.PlacedLaws.{Between, between, slot_taken}
+use Rattle.frame.proofs.SlotBySlot.{code_answer_law, code_area_law, pass_answer}
 use Rattle.frame_coder.specs.Needs.{Coding}
 use Rattle.frame_coder.proofs.code.code_place.Goals.{After-next_place-place}
 use Rattle.frame_coder.proofs.code.code_place.Goals as goal

@@ -14,11 +14,11 @@ use Rattle.plan.specs.declared.FrameState.{FrameState}
 use Rattle.plan.specs.declared.Answer.{Answer}
 use Rattle.plan.specs.Sizes.{slot_octets}
 use Rattle.plan.specs.States.{opened}
-use Rattle.plan.specs.StateLaws.{open_sound}
+use Rattle.plan.proofs.StateLaws.{open_sound}
 use Rattle.frame.specs.Steps.{coded_at, state_after}
 use Rattle.frame.specs.Frames.{state_before, slot_in, octets_of_slot, source_from, source_in, frame_of}
-use Rattle.frame.specs.FrameLaws.{source_from_none, source_from_more, source_from_mono, first_state, state_more, length_slot_in, length_frame_of, slot_at}
-use Rattle.frame.specs.PlacedLaws.{placed_at}
+use Rattle.frame.proofs.FrameLaws.{source_from_none, source_from_more, source_from_mono, first_state, state_more, length_slot_in, length_frame_of, slot_at}
+use Rattle.frame.proofs.PlacedLaws.{placed_at}
 use Rattle.frame.specs.Needs.{Framed}
 use Rattle.frame_coder.specs.Needs.{Coding}
 use Rattle.frame_coder.proofs.code.code_slots.Invariants.{Inv}

@@ -4,7 +4,7 @@ use borrow.Author.Rules.{rules}
 use borrow.Author.Tests.{ne_eqb}
 use lib.ListN.{length}
 use Rattle.frame.specs.Frames.{read_frame_number}
-use Rattle.frame.specs.CallLaws.{read_lent}
+use Rattle.frame.proofs.CallLaws.{read_lent}
 use Rattle.frame_reader.proofs.read.read_frame.Goals as goal
 
 pub returns-then-number-ne0 : goal.returns-then-number-ne0

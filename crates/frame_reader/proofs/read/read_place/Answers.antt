@@ -5,11 +5,11 @@ use Prim.Native.Nat.{ℕ}
 use borrow.Author.Rules.{rules}
 use Rattle.plan.specs.Records.{plan_in}
 use Rattle.plan.specs.Places.{carries, place_of}
-use Rattle.plan.specs.StateLaws.{ready_yes}
+use Rattle.plan.proofs.StateLaws.{ready_yes}
 use Rattle.slot.specs.Calls.{read_answer, read_area}
-use Rattle.frame.specs.StepLaws.{answer_dummy, stuff_dummy, position_dummy, read_dummy}
-use Rattle.frame.specs.PlacedLaws.{Between, between, slot_taken}
-use Rattle.frame.specs.SlotBySlot.{read_answer_law, read_area_law, pass_answer}
+use Rattle.frame.proofs.StepLaws.{answer_dummy, stuff_dummy, position_dummy, read_dummy}
+use Rattle.frame.proofs.PlacedLaws.{Between, between, slot_taken}
+use Rattle.frame.proofs.SlotBySlot.{read_answer_law, read_area_law, pass_answer}
 use Rattle.frame_reader.proofs.read.read_place.Goals.{After-next_place-place}
 use Rattle.frame_reader.proofs.read.read_place.Goals as goal
 

@@ -3,7 +3,7 @@ use mathlib.Core.Path.{sym, ap, ◌∙◌}
 use borrow.Author.Rules.{rules}
 use borrow.Author.Tests.{eq-eqb, ne_eqb}
 use Rattle.lookup.specs.Lookups.{placed}
-use Rattle.lookup.specs.LookupLaws.{slot_there}
+use Rattle.lookup.proofs.LookupLaws.{slot_there}
 use Rattle.lookup.proofs.places.place.Goals as goal
 
 pub place_of-place-requires : goal.place_of-place-requires

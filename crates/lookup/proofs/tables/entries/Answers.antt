@@ -4,8 +4,8 @@ use Prim.Native.Nat.{ℕ, ◌*◌, ◌-◌, ◌≤◌}
 use native.Mathlib.Omega.{arith}
 use borrow.Author.Rules.{rules}
 use Rattle.plan.specs.declared.Plan.{Plan}
-use Rattle.plan.specs.PlanLaws.{accepted}
-use Rattle.lookup.specs.LookupLaws.{table_start, start_none, start_more, start_all}
+use Rattle.plan.proofs.PlanLaws.{accepted}
+use Rattle.lookup.proofs.LookupLaws.{table_start, start_none, start_more, start_all}
 use Rattle.lookup.proofs.tables.entries.Invariants.{Inv}
 use Rattle.lookup.proofs.tables.entries.Goals as goal
 

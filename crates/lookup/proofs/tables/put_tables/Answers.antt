@@ -7,9 +7,9 @@ use borrow.Author.Rules.{rules}
 use Rattle.lists.specs.Filling.{Filling}
 use Rattle.lists.specs.FillingLaws.{filling_none, filling_all}
 use Rattle.plan.specs.declared.Plan.{Plan}
-use Rattle.plan.specs.PlanLaws.{accepted}
+use Rattle.plan.proofs.PlanLaws.{accepted}
 use Rattle.lookup.specs.Lookups.{tables_of}
-use Rattle.lookup.specs.LookupLaws.{table_start, start_none, start_more, start_all, start_within, table_put}
+use Rattle.lookup.proofs.LookupLaws.{table_start, start_none, start_more, start_all, start_within, table_put}
 use Rattle.lookup.proofs.tables.put_tables.Invariants.{Inv}
 use Rattle.lookup.proofs.tables.put_tables.Goals.{After-table_length}
 use Rattle.lookup.proofs.tables.put_tables.Goals as goal

@@ -4,7 +4,7 @@ use native.Mathlib.Omega.{arith}
 use borrow.Author.Rules.{rules}
 use borrow.Author.Tests.{eq-eqb, ne_eqb}
 use Rattle.lookup.specs.Lookups.{tables_entries}
-use Rattle.lookup.specs.LookupLaws.{tables_few}
+use Rattle.lookup.proofs.LookupLaws.{tables_few}
 use Rattle.lookup.proofs.tables.tables_entries.Goals as goal
 
 pub returns-then-plan_number-ne0 : goal.returns-then-plan_number-ne0

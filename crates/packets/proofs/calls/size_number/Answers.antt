@@ -6,7 +6,7 @@ use native.Mathlib.Omega.{arith}
 use borrow.Author.Rules.{rules}
 use borrow.Author.Tests.{eq-eqb, ne_eqb, not-true, not-false}
 use Rattle.plan.specs.Rates.{rate_ok, data_bits_of, data_octets_of, packets_of}
-use Rattle.plan.specs.RateLaws.{rows_most}
+use Rattle.plan.proofs.RateLaws.{rows_most}
 use Rattle.packets.specs.Packets.{size_number}
 use Rattle.packets.proofs.calls.size_number.Goals.{Else-not-known, Else-packets}
 use Rattle.packets.proofs.calls.size_number.Goals as goal

@@ -3,7 +3,7 @@ use mathlib.Core.Path.{sym, ◌∙◌}
 use Prim.Native.Nat.{◌≤◌}
 use borrow.Author.Rules.{rules}
 use Rattle.plan.specs.Plans.{groups_ok, plan_number}
-use Rattle.plan.specs.RateLaws.{between}
+use Rattle.plan.proofs.RateLaws.{between}
 use Rattle.plan.proofs.groups.plan_number.Goals.{Then-known}
 use Rattle.plan.proofs.groups.plan_number.Goals as goal
 

@@ -4,7 +4,7 @@ use Prim.Native.Nat.{◌*◌, ◌-◌, ◌≤◌}
 use native.Mathlib.Omega.{arith}
 use borrow.Author.Rules.{rules}
 use Rattle.plan.specs.Plans.{slots_before}
-use Rattle.plan.specs.PlanLaws.{before_none, before_more}
+use Rattle.plan.proofs.PlanLaws.{before_none, before_more}
 use Rattle.plan.proofs.groups.total.Given as goal
 
 abbrev pub invariant-loop-g : goal.invariant-loop-g

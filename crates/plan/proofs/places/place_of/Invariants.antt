@@ -6,9 +6,9 @@ use native.Mathlib.Omega.{arith}
 use borrow.Author.Rules.{rules}
 use Rattle.plan.specs.declared.Plan.{Plan}
 use Rattle.plan.specs.Plans.{slots_before}
-use Rattle.plan.specs.PlanLaws.{Accepted, accepted, before_none, before_more, before_mono}
+use Rattle.plan.proofs.PlanLaws.{Accepted, accepted, before_none, before_more, before_mono}
 use Rattle.plan.specs.Places.{group_at, carries, place_of}
-use Rattle.plan.specs.PlaceLaws.{group_is}
+use Rattle.plan.proofs.PlaceLaws.{group_is}
 use Rattle.plan.proofs.places.place_of.Given as goal
 
 pub record Inv (plan : Plan) (slot g passed end : ℕ) : Type 0 where

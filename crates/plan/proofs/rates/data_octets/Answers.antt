@@ -4,7 +4,7 @@ use Prim.Native.Nat.{ℕ, ◌*◌, ◌-◌, ◌/◌}
 use native.Mathlib.Omega.{arith}
 use borrow.Author.Rules.{rules}
 use Rattle.plan.specs.Rates.{data_bits_of, data_octets_of}
-use Rattle.plan.specs.RateLaws.{rows_most}
+use Rattle.plan.proofs.RateLaws.{rows_most}
 use Rattle.plan.proofs.rates.data_octets.Goals as goal
 
 pub returns-then-count-eq0 : goal.returns-then-count-eq0

@@ -4,7 +4,7 @@ use native.Mathlib.Omega.{arith}
 use borrow.Author.Rules.{rules}
 use Rattle.plan.specs.Plans.{plan_number}
 use Rattle.plan.specs.Places.{place_of}
-use Rattle.plan.specs.StateLaws.{ready}
+use Rattle.plan.proofs.StateLaws.{ready}
 use Rattle.plan.proofs.state.next_place.Goals as goal
 
 pub place_of-requires : goal.place_of-requires

@@ -3,7 +3,7 @@ use mathlib.Core.Path.{sym, ◌∙◌}
 use borrow.Author.Rules.{rules}
 use borrow.Author.Tests.{eq-eqb, ne_eqb}
 use Rattle.plan.specs.States.{passed}
-use Rattle.plan.specs.StateLaws.{pass_ready}
+use Rattle.plan.proofs.StateLaws.{pass_ready}
 use Rattle.plan.proofs.state.pass.Goals as goal
 
 pub advanced-next-requires : goal.advanced-next-requires

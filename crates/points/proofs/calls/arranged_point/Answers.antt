@@ -1,6 +1,6 @@
 -- `points::arranged_point`: the point of the symbol, turned.
 use borrow.Author.Rules.{rules}
-use Rattle.points.specs.AnswerLaws.{turned}
+use Rattle.points.proofs.AnswerLaws.{turned}
 use Rattle.points.proofs.calls.arranged_point.Goals as goal
 
 pub returns : goal.returns

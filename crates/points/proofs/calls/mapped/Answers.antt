@@ -8,8 +8,8 @@ use borrow.Author.Tests.{le-ltb, lt-ltb}
 use lib.ListN.{length}
 use Rattle.lists.specs.ChoiceLaws.{then_first, then_next}
 use Rattle.points.specs.Numbers.{lent_ok, lent_number, mapped_number}
-use Rattle.points.specs.NumberLaws.{Lent, lent, listed, and_true}
-use Rattle.points.specs.AnswerLaws.{refused, answered}
+use Rattle.points.proofs.NumberLaws.{Lent, lent, listed, and_true}
+use Rattle.points.proofs.AnswerLaws.{refused, answered}
 use Rattle.points.proofs.calls.mapped.Goals.{After-lent_number-number, Else-in_phase-at, Else-number-ne0}
 use Rattle.points.proofs.calls.mapped.Lts.View.{up-After-lent_number-number, up-Else-in_phase-at, up-Else-number-ne0}
 use Rattle.points.proofs.calls.mapped.Goals as goal

@@ -2,7 +2,7 @@
 use mathlib.Core.Path.{◌∙◌, sym}
 use borrow.Author.Rules.{rules}
 use Rattle.refusal.specs.AnswerLaws.{refused, accepted}
-use Rattle.points.specs.NumberLaws.{areas}
+use Rattle.points.proofs.NumberLaws.{areas}
 use Rattle.points.proofs.calls.points_of_labels.Goals as goal
 
 pub returns-then-number-ne0 : goal.returns-then-number-ne0

@@ -10,7 +10,7 @@ use Rattle.lists.specs.Filling.{Filling}
 use Rattle.lists.specs.FillingLaws.{filling_none, filling_set, filling_all}
 use Rattle.points.specs.declared.Point.{Point}
 use Rattle.points.specs.Points.{point_of, in_phase_of, quadrature_of}
-use Rattle.points.specs.PointLaws.{length_in_phase, length_quadrature, in_phase_at, quadrature_at}
+use Rattle.points.proofs.PointLaws.{length_in_phase, length_quadrature, in_phase_at, quadrature_at}
 use Rattle.points.proofs.mapping.put_points.Invariants.{Putting}
 use Rattle.points.proofs.mapping.put_points.Goals as goal
 

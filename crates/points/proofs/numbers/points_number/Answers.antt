@@ -9,7 +9,7 @@ use Rattle.lists.specs.ChoiceLaws.{and_right, then_first, then_next}
 use Rattle.symbols.specs.Labels.{label_number}
 use Rattle.symbols.specs.CallLaws.{labels_fit}
 use Rattle.points.specs.Numbers.{lent_ok, lent_number, room_ok, points_number}
-use Rattle.points.specs.NumberLaws.{Lent, lent, listed}
+use Rattle.points.proofs.NumberLaws.{Lent, lent, listed}
 use Rattle.points.proofs.numbers.points_number.Goals.{After-label_number-label, After-lent_number-number, Else-number-ne0}
 use Rattle.points.proofs.numbers.points_number.Lts.View.{up-After-label_number-label, up-After-lent_number-number, up-Else-number-ne0}
 use Rattle.points.proofs.numbers.points_number.Goals as goal

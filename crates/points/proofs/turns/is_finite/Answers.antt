@@ -1,7 +1,7 @@
 -- `points::is_finite`: between both infinities lie the finite values alone.
 use mathlib.Core.Path.{◌∙◌, ap, sym}
 use lib.Ieee.{Float, nan_bits, neg, lt}
-use Rattle.points.specs.PointLaws.{infinity, below_infinity, not_below_infinity}
+use Rattle.points.proofs.PointLaws.{infinity, below_infinity, not_below_infinity}
 use Rattle.points.proofs.turns.is_finite.Goals as goal
 
 pub float_from_bits-infinity : goal.float_from_bits-infinity

@@ -6,7 +6,8 @@ use native.Mathlib.Omega.{arith}
 use borrow.Author.Rules.{rules}
 use borrow.Author.Tests.{not-true, not-false}
 use Rattle.plan.specs.Rates.{rate_ok}
-use Rattle.plan.specs.RateLaws.{Between, between}
+use Rattle.plan.specs.Needs.{Between}
+use Rattle.plan.proofs.RateLaws.{between}
 use Rattle.published.specs.Published.{table_of}
 use Rattle.published.specs.PublishedLaws.{number_unknown, number_long, number_good}
 use Rattle.refusal.specs.AnswerLaws.{refused, accepted}

@@ -5,7 +5,8 @@ use native.Mathlib.Omega.{arith}
 use borrow.Author.Rules.{rules}
 use lib.ListN.{length}
 use Rattle.lists.specs.CountLaws.{sum_more}
-use Rattle.plan.specs.RateLaws.{Between, between}
+use Rattle.plan.specs.Needs.{Between}
+use Rattle.plan.proofs.RateLaws.{between}
 use Rattle.published.specs.Published.{table_at, table_of, length_of}
 use Rattle.published.specs.PublishedLaws.{table_short}
 use Rattle.published.proofs.copies.table_length.Goals.{After-start, Then-known}

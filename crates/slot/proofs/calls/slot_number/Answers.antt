@@ -5,15 +5,15 @@ use borrow.Author.Rules.{rules}
 use Rattle.lists.specs.ChoiceLaws.{then_next, onward}
 use Rattle.plan.specs.Records.{plan_in}
 use Rattle.plan.specs.Rates.{rows_of}
-use Rattle.plan.specs.RateLaws.{Rows}
+use Rattle.plan.specs.Needs.{Rows}
 use Rattle.plan.specs.Places.{carries, place_of}
 use Rattle.plan.specs.States.{state_number}
 use Rattle.codeword.specs.declared.Shape.{Shape}
 use Rattle.codeword.specs.Calls.{lent_number}
 use Rattle.slot.specs.Slots.{source_octets, slot_shape}
-use Rattle.slot.specs.SlotLaws.{fits}
+use Rattle.slot.proofs.SlotLaws.{fits}
 use Rattle.slot.specs.Calls.{rows_at, data_number, slot_number}
-use Rattle.slot.specs.CallLaws.{at_data}
+use Rattle.slot.proofs.CallLaws.{at_data}
 use Rattle.slot.proofs.calls.slot_number.Goals.{After-rows-rows, Else-number-ne0}
 use Rattle.slot.proofs.calls.slot_number.Goals as goal
 

@@ -9,7 +9,7 @@ use Rattle.dispersal.specs.RegisterLaws.{register_is}
 use Rattle.plan.specs.States.{moved_on, state_number}
 use Rattle.slot.specs.Slots.{slot_of, register_after}
 use Rattle.slot.specs.Calls.{rows_at, data_number, slot_number, code_answer, code_area}
-use Rattle.slot.specs.CallLaws.{Accepted-slot, accepted_slot}
+use Rattle.slot.proofs.CallLaws.{Accepted-slot, accepted_slot}
 use Rattle.slot_coder.proofs.code.code_slot.Goals.{Else-number-ne0}
 use Rattle.slot_coder.proofs.code.code_slot.Goals as goal
 

@@ -10,9 +10,9 @@ use Rattle.lists.specs.PartLaws.{length_part, three_parts}
 use Rattle.bits.specs.Octets.{bits_of}
 use Rattle.bits.specs.OctetLaws.{length_bits_of}
 use Rattle.bch.specs.Bch.{bch_bits}
-use Rattle.bch.specs.BchLaws.{length_bch_bits}
+use Rattle.bch.proofs.BchLaws.{length_bch_bits}
 use Rattle.codeword.specs.Words.{plain}
-use Rattle.slot.specs.SlotLaws.{sizes}
+use Rattle.slot.proofs.SlotLaws.{sizes}
 use Rattle.slot_coder.proofs.stages.put_plain.Goals.{After-expand, After-message_bits-message, After-of_octets}
 use Rattle.slot_coder.proofs.stages.put_plain.Goals as goal
 

@@ -10,9 +10,9 @@ use borrow.Rule.Slice.PartMut.{put_mid, post_of, same_len_mid}
 use Rattle.bits.specs.Octets.{bits_of}
 use Rattle.codeword.specs.declared.Shape.{Shape}
 use Rattle.codeword.specs.Words.{run_bits, plain, sent, word_of, register_after as registerAfterWord}
-use Rattle.codeword.specs.WordLaws.{length_plain}
+use Rattle.codeword.proofs.WordLaws.{length_plain}
 use Rattle.slot.specs.Slots.{stuff_bits, slot_shape, slot_of}
-use Rattle.slot.specs.SlotLaws.{sizes, fits, message, register_after_law}
+use Rattle.slot.proofs.SlotLaws.{sizes, fits, message, register_after_law}
 use Rattle.slot_coder.proofs.stages.put_slot.Goals.{After-put_plain, After-run_bits-run}
 use Rattle.slot_coder.proofs.stages.put_slot.Goals as goal
 

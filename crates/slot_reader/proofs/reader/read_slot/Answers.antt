@@ -10,7 +10,7 @@ use Rattle.plan.specs.States.{moved_on, state_number}
 use Rattle.slot.specs.Slots.{source_octets}
 use Rattle.slot.specs.Reading.{not_read}
 use Rattle.slot.specs.Calls.{slot_number, data_number}
-use Rattle.slot.specs.CallLaws.{Accepted-slot, accepted_slot}
+use Rattle.slot.proofs.CallLaws.{Accepted-slot, accepted_slot}
 use Rattle.slot_reader.specs.Needs.{ReadOf}
 use Rattle.slot_reader.specs.ReadLaws.{answer≡, read_answer_refused, read_area_refused, read_answer_looked, read_area_looked}
 use Rattle.slot_reader.proofs.reader.read_slot.Goals.{Else-number-ne0}

@@ -12,9 +12,9 @@ use Rattle.bits.specs.Digits.{number}
 use Rattle.bits.specs.Octets.{octets_of}
 use Rattle.codeword.specs.Words.{run_bits}
 use Rattle.codeword.specs.Reading.{taken_off, message_in, tail_in, word_number}
-use Rattle.codeword.specs.ReadingLaws.{taken_off_bits}
+use Rattle.codeword.proofs.ReadingLaws.{taken_off_bits}
 use Rattle.slot.specs.Slots.{source_octets, slot_shape}
-use Rattle.slot.specs.SlotLaws.{sizes, fits, register_after_law}
+use Rattle.slot.proofs.SlotLaws.{sizes, fits, register_after_law}
 use Rattle.slot.specs.Reading.{received_number, stuff_in, source_of, failing_in}
 use Rattle.slot_reader.proofs.received.read.Goals.{After-read_codeword-word}
 use Rattle.slot_reader.proofs.received.read.Goals as goal

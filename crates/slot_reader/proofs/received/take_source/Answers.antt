@@ -13,7 +13,7 @@ use Rattle.bits.specs.DigitLaws.{number_lt}
 use Rattle.bits.specs.Octets.{octets_of}
 use Rattle.codeword.specs.Reading.{tail_in}
 use Rattle.slot.specs.Slots.{message_bits, slot_shape}
-use Rattle.slot.specs.SlotLaws.{sizes}
+use Rattle.slot.proofs.SlotLaws.{sizes}
 use Rattle.slot_reader.proofs.received.take_source.Goals.{After-gather}
 use Rattle.slot_reader.proofs.received.take_source.Goals as goal
 

@@ -2,7 +2,7 @@
 use mathlib.Core.Path.{sym, ◌∙◌}
 use borrow.Author.Rules.{rules}
 use Rattle.lists.specs.ChoiceLaws.{then_first, then_next}
-use Rattle.plan.specs.RateLaws.{between}
+use Rattle.plan.proofs.RateLaws.{between}
 use Rattle.symbols.specs.CallLaws.{slot_ready}
 use Rattle.symbols.specs.Labels.{slot_of_labels_number}
 use Rattle.symbols.proofs.numbers.slot_of_labels_number.Goals as goal

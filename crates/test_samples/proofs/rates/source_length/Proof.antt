@@ -3,7 +3,7 @@ use Prim.Native.Nat.{ℕ, ◌≤◌}
 use native.Mathlib.Omega.{arith}
 use borrow.Author.Rules.{rules}
 use Rattle.plan.specs.Rates.{data_bits_of, data_octets_of}
-use Rattle.plan.specs.RateLaws.{rows_most}
+use Rattle.plan.proofs.RateLaws.{rows_most}
 use Rattle.test_samples.proofs.rates.source_length.Statement.{statement}
 use Rattle.test_samples.proofs.rates.source_length.Tie as tie
 

@@ -5,7 +5,7 @@ use Rattle.dispersal.specs.Register.{settings_ok}
 use Rattle.plan.specs.Sizes.{block_width}
 use Rattle.codeword.specs.declared.Shape.{Shape}
 use Rattle.codeword.specs.Calls.{lent_number as wordLentNumber}
-use Rattle.tmcc.specs.BlockLaws.{fits}
+use Rattle.tmcc.proofs.BlockLaws.{fits}
 use Rattle.tmcc.specs.Calls.{lent_number}
 use Rattle.tmcc.proofs.calls.lent_number.Goals as goal
 

@@ -1,0 +1,10 @@
+pub mod DemandTwo
+pub mod DemandThree
+pub mod WorkedByHand
+pub mod PlanRules
+pub mod TlvRules
+pub mod ParitySteps
+pub mod CardRules
+pub mod StuffRules
+pub mod PointRules
+pub mod PositionRules

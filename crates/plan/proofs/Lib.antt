@@ -1,0 +1,4 @@
+pub mod RateLaws
+pub mod PlanLaws
+pub mod PlaceLaws
+pub mod StateLaws

@@ -1,0 +1,4 @@
+pub mod BlockLaws
+pub mod CallLaws
+pub mod RoundTrips
+pub mod DemandThree
