@@ -1,6 +1,7 @@
 // Small shared functions. What every crate shares besides is in specs/: counting by index, choosing
 // by a test, parts of a list, runs of bits and of octets.
 #![tactic(auto)]
+
 ghost use Rattle.std.specs.Prelude.{◌≡◌, ◌<◌, get_or};
 
 // An octet as a number to reckon with.

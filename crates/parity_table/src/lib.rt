@@ -1,6 +1,7 @@
 // The form of a parity table that is lent: for each row a count and as many addresses.
 // With R rows there are M = 374 * (120 - R) parity positions, and the addresses are below M.
 #![tactic(auto)]
+
 ghost use Rattle.std.specs.Prelude.{◌≡◌, ◌+◌, ◌<◌, length};
 ghost use Rattle.parity_table.specs.Tables.{address_ok, row_ok, table_ok, table_length};
 ghost use Rattle.parity_table.specs.Needs.{Rows};

@@ -1,5 +1,6 @@
 // The refusal numbers of documents 01 and 02, by their words.
 #![tactic(auto)]
+
 pub const PLAN: u8 = 1;
 
 pub const DUMMY: u8 = 2;

@@ -1,14 +1,8 @@
 -- `parity_table::address_ok`: the addresses passed differ from the one that is tested.
-use mathlib.Core.Path.{◌≡◌, refl, sym}
+use mathlib.Core.Path.{◌≡◌}
 use mathlib.Core.List.{List}
 use Prim.Native.Nat.{ℕ, ◌+◌, ◌-◌, ◌<◌}
-use native.Mathlib.Omega.{arith}
 use lib.ListN.{length, get_or}
-use borrow.Author.Count.{below_none, below_more}
-use borrow.Author.Rules.{rules}
-use Rattle.lists.specs.ChoiceLaws.{false_of}
-use Rattle.parity_table.specs.Tables.{address_ok}
-use Rattle.parity_table.specs.TableLaws.{address_yes, address_below, address_new}
 use Rattle.parity_table.proofs.address_ok.Given as goal
 
 pub record Inv (m : ℕ) (table : List ℕ) (from i address k : ℕ) : Type 0 where

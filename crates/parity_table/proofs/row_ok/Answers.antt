@@ -1,17 +1,11 @@
 -- `parity_table::row_ok`: each refusal contradicts what an accepted row says; the addresses passed are accepted.
-use mathlib.Core.Path.{◌≡◌, refl, sym, ◌∙◌}
-use mathlib.Core.Bool.{true}
-use mathlib.Core.List.{List}
-use Prim.Native.Nat.{ℕ, ◌+◌, ◌-◌, ◌<◌, ◌≤◌}
+use mathlib.Core.Path.{refl, sym, ◌∙◌}
+use Prim.Native.Nat.{◌+◌}
 use native.Mathlib.Omega.{arith}
-use lib.ListN.{length, get_or}
 use borrow.Author.Count.{below_none, below_more}
 use borrow.Author.Rules.{rules}
-use borrow.Author.Tests.{not-true, not-false}
 use Rattle.lists.specs.ChoiceLaws.{clash}
-use Rattle.parity_table.specs.Tables.{address_ok}
 use Rattle.parity_table.specs.TableLaws.{address_yes, row_made, row_yes, row_no}
-use Rattle.parity_table.proofs.row_ok.Invariants.{Inv}
 use Rattle.parity_table.proofs.row_ok.Goals as goal
 
 pub returns-then-table-s : goal.returns-then-table-s

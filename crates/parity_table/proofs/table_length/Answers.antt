@@ -1,15 +1,12 @@
 -- `parity_table::table_length`: the rows passed are accepted, and the next begins at s.
 use mathlib.Core.Path.{◌≡◌, refl, sym, ap, ◌∙◌}
-use mathlib.Core.List.{List}
-use Prim.Native.Nat.{ℕ, ◌-◌, ◌<◌, ◌≤◌}
+use Prim.Native.Nat.{ℕ}
 use native.Mathlib.Omega.{arith}
 use lib.ListN.{get_or}
 use borrow.Author.Count.{below_none, below_more}
 use borrow.Author.Rules.{rules}
-use borrow.Author.Tests.{not-true, not-false}
 use Rattle.parity_table.specs.Tables.{positions, row_start}
 use Rattle.parity_table.specs.TableLaws.{Row, row_start_none, row_start_more, row_of, rows_all, rows_no, table_length_yes, table_length_no}
-use Rattle.parity_table.proofs.table_length.Invariants.{Inv}
 use Rattle.parity_table.proofs.table_length.Goals as goal
 
 -- the row at s, where row_ok says that it stands there

@@ -1,14 +1,9 @@
 -- `parity_table::table_length`: the rows passed are accepted, and the next begins at s.
-use mathlib.Core.Path.{◌≡◌, refl, sym, ap, ◌∙◌}
+use mathlib.Core.Path.{◌≡◌}
 use mathlib.Core.List.{List}
 use Prim.Native.Nat.{ℕ, ◌-◌, ◌<◌, ◌≤◌}
-use native.Mathlib.Omega.{arith}
-use lib.ListN.{get_or}
-use borrow.Author.Count.{below_none, below_more}
-use borrow.Author.Rules.{rules}
-use borrow.Author.Tests.{not-true, not-false}
 use Rattle.parity_table.specs.Tables.{positions, row_start}
-use Rattle.parity_table.specs.TableLaws.{Row, row_start_none, row_start_more, row_of, rows_all, rows_no, table_length_yes, table_length_no}
+use Rattle.parity_table.specs.TableLaws.{Row}
 use Rattle.parity_table.proofs.table_length.Given as goal
 
 pub record Inv (rows : ℕ) (list : List ℕ) (m s r : ℕ) : Type 0 where

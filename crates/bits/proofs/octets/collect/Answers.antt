@@ -1,17 +1,13 @@
 -- `bits::collect`: the area is filled with the octets that the bits make.
-use mathlib.Core.Path.{◌≡◌, refl}
-use mathlib.Core.List.{List}
-use Prim.Native.Nat.{ℕ, ◌+◌, ◌*◌, ◌-◌}
+use mathlib.Core.Path.{refl}
+use Prim.Native.Nat.{◌+◌}
 use native.Mathlib.Omega.{arith}
 use lib.ListN.{length}
 use borrow.Author.Rules.{rules}
-use Rattle.lists.specs.Filling.{Filling}
 use Rattle.lists.specs.FillingLaws.{filling_none, filling_more, filling_all}
 use Rattle.lists.specs.RunLaws.{below_part}
-use Rattle.bits.specs.Octets.{octets_of}
 use Rattle.bits.specs.OctetLaws.{length_octets_of}
 use Rattle.bits.proofs.Turns.{eight_part, collect_turn}
-use Rattle.bits.proofs.octets.collect.Invariants.{Inv}
 use Rattle.bits.proofs.octets.collect.Goals as goal
 
 pub loop-i-init : goal.loop-i-init

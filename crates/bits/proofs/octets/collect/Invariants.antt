@@ -1,16 +1,10 @@
 -- `bits::collect`: the area is filled with the octets that the bits make.
-use mathlib.Core.Path.{◌≡◌, refl}
+use mathlib.Core.Path.{◌≡◌}
 use mathlib.Core.List.{List}
-use Prim.Native.Nat.{ℕ, ◌+◌, ◌*◌, ◌-◌}
-use native.Mathlib.Omega.{arith}
+use Prim.Native.Nat.{ℕ, ◌*◌, ◌-◌}
 use lib.ListN.{length}
-use borrow.Author.Rules.{rules}
 use Rattle.lists.specs.Filling.{Filling}
-use Rattle.lists.specs.FillingLaws.{filling_none, filling_more, filling_all}
-use Rattle.lists.specs.RunLaws.{below_part}
 use Rattle.bits.specs.Octets.{octets_of}
-use Rattle.bits.specs.OctetLaws.{length_octets_of}
-use Rattle.bits.proofs.Turns.{eight_part, collect_turn}
 use Rattle.bits.proofs.octets.collect.Given as goal
 
 pub record Inv (bits found octets : List ℕ) (i at : ℕ) : Type 0 where

@@ -1,16 +1,11 @@
 -- `bits::expand`: the area is filled with the octets' bits, eight at a time.
-use mathlib.Core.Path.{◌≡◌, refl, ◌∙◌}
-use mathlib.Core.List.{List}
-use Prim.Native.Nat.{ℕ, ◌+◌, ◌*◌, ◌-◌, ◌≤◌}
+use mathlib.Core.Path.{refl, ◌∙◌}
+use Prim.Native.Nat.{◌+◌}
 use native.Mathlib.Omega.{arith}
-use lib.ListN.{length}
 use borrow.Author.Rules.{rules}
-use Rattle.lists.specs.Filling.{Filling}
 use Rattle.lists.specs.FillingLaws.{filling_none, filling_part, filling_all}
-use Rattle.bits.specs.Octets.{bits_of}
 use Rattle.bits.specs.OctetLaws.{length_bits_of}
 use Rattle.bits.proofs.Turns.{eight_part, expand_turn}
-use Rattle.bits.proofs.octets.expand.Invariants.{Inv}
 use Rattle.bits.proofs.octets.expand.Goals as goal
 
 pub loop-i-init : goal.loop-i-init

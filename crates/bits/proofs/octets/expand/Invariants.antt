@@ -1,15 +1,10 @@
 -- `bits::expand`: the area is filled with the octets' bits, eight at a time.
-use mathlib.Core.Path.{◌≡◌, refl, ◌∙◌}
+use mathlib.Core.Path.{◌≡◌}
 use mathlib.Core.List.{List}
-use Prim.Native.Nat.{ℕ, ◌+◌, ◌*◌, ◌-◌, ◌≤◌}
-use native.Mathlib.Omega.{arith}
+use Prim.Native.Nat.{ℕ, ◌*◌, ◌-◌, ◌≤◌}
 use lib.ListN.{length}
-use borrow.Author.Rules.{rules}
 use Rattle.lists.specs.Filling.{Filling}
-use Rattle.lists.specs.FillingLaws.{filling_none, filling_part, filling_all}
 use Rattle.bits.specs.Octets.{bits_of}
-use Rattle.bits.specs.OctetLaws.{length_bits_of}
-use Rattle.bits.proofs.Turns.{eight_part, expand_turn}
 use Rattle.bits.proofs.octets.expand.Given as goal
 
 pub record Inv (octets found bits : List ℕ) (i at : ℕ) : Type 0 where

@@ -1,13 +1,10 @@
 -- `bits::spread`: the digits are stored from the last; those still to come are the digits of what is left of x.
 use mathlib.Core.Path.{◌≡◌, refl, ◌∙◌}
-use mathlib.Core.List.{List, ◌++◌}
-use Prim.Native.Nat.{ℕ, ◌+◌, ◌-◌, ◌≤◌}
+use Prim.Native.Nat.{◌+◌, ◌-◌}
 use native.Mathlib.Omega.{arith}
-use lib.ListN.{length, drop, length-set}
+use lib.ListN.{length-set}
 use borrow.Author.Rules.{rules}
-use Rattle.bits.specs.Digits.{digits}
 use Rattle.bits.proofs.Turns.{spread_none, spread_turn, spread_end}
-use Rattle.bits.proofs.octets.spread.Invariants.{Inv}
 use Rattle.bits.proofs.octets.spread.Goals as goal
 
 pub loop-k-init : goal.loop-k-init

@@ -1,12 +1,9 @@
 -- `bits::spread`: the digits are stored from the last; those still to come are the digits of what is left of x.
-use mathlib.Core.Path.{◌≡◌, refl, ◌∙◌}
+use mathlib.Core.Path.{◌≡◌}
 use mathlib.Core.List.{List, ◌++◌}
-use Prim.Native.Nat.{ℕ, ◌+◌, ◌-◌, ◌≤◌}
-use native.Mathlib.Omega.{arith}
-use lib.ListN.{length, drop, length-set}
-use borrow.Author.Rules.{rules}
+use Prim.Native.Nat.{ℕ, ◌≤◌}
+use lib.ListN.{length, drop}
 use Rattle.bits.specs.Digits.{digits}
-use Rattle.bits.proofs.Turns.{spread_none, spread_turn, spread_end}
 use Rattle.bits.proofs.octets.spread.Given as goal
 
 pub record Inv (x : ℕ) (found bits : List ℕ) (rest k : ℕ) : Type 0 where

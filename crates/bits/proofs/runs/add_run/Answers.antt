@@ -1,11 +1,9 @@
 -- `bits::add_run`: the area is filled with the sum, each bit read before it is replaced.
 use mathlib.Core.Path.{sym, ap₂, ◌∙◌}
-use Prim.Native.Nat.{ℕ, ◌+◌, ◌-◌, ◌%◌, ◌<◌}
+use Prim.Native.Nat.{ℕ, ◌+◌, ◌%◌, ◌<◌}
 use lib.ListN.{length}
 use borrow.Author.Rules.{rules}
-use Rattle.lists.specs.Filling.{Filling}
 use Rattle.lists.specs.FillingLaws.{filling_none, filling_here, filling_more, filling_all}
-use Rattle.bits.specs.Sums.{added}
 use Rattle.bits.specs.SumLaws.{length_added, get_or_added}
 use Rattle.bits.proofs.runs.add_run.Goals as goal
 

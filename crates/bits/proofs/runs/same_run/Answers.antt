@@ -1,10 +1,9 @@
 -- `bits::same_run`: where the runs agree up to i, they are the same exactly if the rests are.
-use mathlib.Core.Path.{◌≡◌, refl, sym, ◌∙◌}
-use Prim.Native.Nat.{◌-◌, ◌≤◌}
+use mathlib.Core.Path.{refl, sym, ◌∙◌}
+use Prim.Native.Nat.{◌≤◌}
 use native.Mathlib.Omega.{arith}
-use lib.ListN.{length, drop, drop_of_length-le}
+use lib.ListN.{length, drop_of_length-le}
 use borrow.Author.Rules.{rules}
-use Rattle.bits.specs.Same.{same}
 use Rattle.bits.specs.SameLaws.{same_none}
 use Rattle.bits.proofs.Turns.{same_turn, same_wrong}
 use Rattle.bits.proofs.runs.same_run.Goals as goal

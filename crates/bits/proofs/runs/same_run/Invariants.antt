@@ -1,12 +1,8 @@
 -- `bits::same_run`: where the runs agree up to i, they are the same exactly if the rests are.
-use mathlib.Core.Path.{◌≡◌, refl, sym, ◌∙◌}
+use mathlib.Core.Path.{◌≡◌}
 use Prim.Native.Nat.{◌-◌, ◌≤◌}
-use native.Mathlib.Omega.{arith}
-use lib.ListN.{length, drop, drop_of_length-le}
-use borrow.Author.Rules.{rules}
+use lib.ListN.{length, drop}
 use Rattle.bits.specs.Same.{same}
-use Rattle.bits.specs.SameLaws.{same_none}
-use Rattle.bits.proofs.Turns.{same_turn, same_wrong}
 use Rattle.bits.proofs.runs.same_run.Given as goal
 
 abbrev pub invariant-loop-i : goal.invariant-loop-i
