@@ -1,7 +1,7 @@
 -- `test_samples::source_length`: no rate has more than 109 rows.
 use Rattle.std.proofs.Common.{◌≤◌, ℕ, arith}
 use Rattle.plan.specs.Rates.{data_bits_of, data_octets_of}
-use Rattle.plan.specs.RateLaws.{rows_most}
+use Rattle.plan.proofs.RateLaws.{rows_most}
 use Rattle.test_samples.proofs.rates.source_length.Goals as goal
 
 most : (rate : ℕ) → data_octets_of rate ≤ 5049
