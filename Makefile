@@ -37,7 +37,7 @@ soak: packages lib ## the tests of the Rust crate on twenty times as many inputs
 	S3_SOAK=20 tests/rust/run
 
 bench: packages lib ## times coding and reading slots and frames, filling and reading TLV packets, making signal points, the proved code beside Rust and, where it is installed, GNU Radio
-	tools/prove check test_bench
+	tools/prove run test_bench
 	cargo build --quiet --release --offline --locked --manifest-path tests/reference/Cargo.toml --target-dir target/reference
 	tools/bench
 	S3FRAME_LIB_DIR=$(CURDIR)/target/staticlib cargo bench --quiet --offline --locked --manifest-path rust/s3frame/Cargo.toml --target-dir target/rust --bench tlv --bench points
@@ -45,5 +45,5 @@ bench: packages lib ## times coding and reading slots and frames, filling and re
 packages: ## installs what is missing of .ci/packages
 	tools/packages
 
-clean: ## removes target/, where all that is built and proved lies
-	rm -rf target
+clean: ## removes target/ and the folders out/ of the crates, where all that is built and proved lies
+	rm -rf target crates/*/out

@@ -1,4 +1,4 @@
-//! Links the proved archive, which `rt staticlib s3frame` writes to target/staticlib at the root of the project.
+//! Links the proved archive, which `make lib` leaves in target/staticlib at the root of the project.
 use std::env;
 use std::path::{Path, PathBuf};
 
@@ -19,7 +19,7 @@ fn main() {
     // Without this the linker's own message is all that a user sees.
     if !archive.is_file() {
         let archive = archive.display();
-        panic!("there is no {archive}: run `rt staticlib s3frame`, or set {FOLDER}");
+        panic!("there is no {archive}: run `make lib`, or set {FOLDER}");
     }
     let target = env::var("CARGO_CFG_TARGET_ARCH").expect("cargo names the target");
     assert_eq!(target, "x86_64", "the archive is compiled for x86-64");

@@ -9,7 +9,7 @@ import subprocess
 ROOT = os.path.dirname(os.path.dirname(os.path.dirname(os.path.abspath(__file__))))
 COMMAND = f"{ROOT}/target/command/release/s3frame"
 REFERENCE = f"{ROOT}/target/reference/release/reference"
-PLAN_LIST = f"{ROOT}/target/bin/plan_list"
+PLAN_LIST = f"{ROOT}/crates/plan_list/out/plan_list"
 SLOT, FRAME, PACKET, HEADER = 5610, 673200, 188, 22
 NULL = bytes([0x47, 0x1F, 0xFF, 0x10]) + b"\xff" * 184
 MASK, START = "19088743", "12246029"

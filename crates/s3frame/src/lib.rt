@@ -1,5 +1,7 @@
 // The calls for C and Rust. Each is an entry of a crate below, with its parameters, its answer and its contract; structs go in
 // and come back by value.
+#![tactic(auto)]
+
 mod card;
 mod frames;
 mod labels;

@@ -1,12 +1,19 @@
 // Numbers that the program is started with.
+use std::rt::Env;
 
 // The number that an argument says, or another where it says none.
-pub fn number_or(place: usize, other: u64) -> u64 {
+pub fn number_or(rt: &impl Env, place: usize, other: u64) -> u64 {
+    // No number has more octets, so an argument that does not fit says none.
     let mut word = [0u8; 16];
-    let length = os::arg(place, &mut word);
-    let said = numerals::number(&word[..length]);
-    if said.ok {
-        return said.value as u64;
+    match rt.arg(place, &mut word) {
+        Ok(length) => {
+            let said = numerals::number(&word[..length]);
+            if said.ok {
+                u64::from(said.value)
+            } else {
+                other
+            }
+        }
+        Err(_) => other,
     }
-    other
 }

@@ -1,22 +1,21 @@
 // Whole frames of one rate, coded and read again and again.
+#![tactic(auto)]
+
 ghost use Rattle.test_bench_frames.specs.Areas.{Room};
 
-use libc::STDOUT_FILENO;
+use std::io;
 use test_lines::field;
 use test_samples::{MASK, START};
 
 // Makes what is coded next depend on the frame before it.
 fn carry(frame: &[u8], source: &mut [u8]) {
-    if frame.len() == plan::FRAME_OCTETS {
-        if 0 < source.len() {
-            source[0] = frame[673199];
-        }
+    if frame.len() == plan::FRAME_OCTETS && 0 < source.len() {
+        source[0] = frame[673199];
     }
 }
 
 fn code_frames(rate: u16, table: &[u16], count: u64, source: &mut [u8], frame: &mut [u8]) {
-    let mut n: u64 = 0;
-    while n < count {
+    for _ in 0..count {
         carry(frame, source);
         frame_coder::code_frame(
             test_samples::plan_of(rate),
@@ -26,7 +25,6 @@ fn code_frames(rate: u16, table: &[u16], count: u64, source: &mut [u8], frame: &
             source,
             frame,
         );
-        n += 1;
     }
 }
 
@@ -40,8 +38,7 @@ fn read_frames(
     stuff: &mut [u8],
     positions: &mut [u16],
 ) {
-    let mut n: u64 = 0;
-    while n < count {
+    for _ in 0..count {
         frame_reader::read_frame(
             test_samples::plan_of(rate),
             MASK,
@@ -53,22 +50,30 @@ fn read_frames(
             stuff,
             positions,
         );
-        n += 1;
     }
 }
 
 // A line with the digests of the last frame coded and of what was read last.
-fn line(rate: u16, codings: u64, readings: u64, frame: &[u8], answers: &[u8], found: &[u8]) {
-    field(b"frame rate ", rate as u64);
-    field(b" coded ", codings);
-    field(b" digest ", test_samples::digest(frame));
-    field(b" read ", readings);
-    field(b" answers ", test_samples::digest(answers));
-    field(b" digest ", test_samples::digest(found));
-    io::write_all(STDOUT_FILENO, b"\n");
+fn line(
+    rt: &impl Print,
+    rate: u16,
+    codings: u64,
+    readings: u64,
+    frame: &[u8],
+    answers: &[u8],
+    found: &[u8],
+) -> io::Result<()> {
+    field(rt, "frame rate ", u64::from(rate))?;
+    field(rt, " coded ", codings)?;
+    field(rt, " digest ", test_samples::digest(frame))?;
+    field(rt, " read ", readings)?;
+    field(rt, " answers ", test_samples::digest(answers))?;
+    field(rt, " digest ", test_samples::digest(found))?;
+    println!(rt; "")
 }
 
 fn run(
+    rt: &impl Print,
     rate: u16,
     codings: u64,
     readings: u64,
@@ -76,11 +81,11 @@ fn run(
     source: &mut [u8],
     found: &mut [u8],
     frame: &mut [u8],
-) {
+) -> io::Result<()> {
     let mut answers = [0u8; 120];
     let mut stuff = [0u8; 120];
     let mut positions = [0u16; 120];
-    test_samples::fill(rate as u64, source);
+    test_samples::fill(u64::from(rate), source);
     code_frames(rate, table, codings, source, frame);
     read_frames(
         rate,
@@ -92,10 +97,11 @@ fn run(
         &mut stuff,
         &mut positions,
     );
-    line(rate, codings, readings, frame, &answers, found);
+    line(rt, rate, codings, readings, frame, &answers, found)
 }
 
 fn with_areas(
+    rt: &impl Print,
     rate: u16,
     codings: u64,
     readings: u64,
@@ -103,43 +109,37 @@ fn with_areas(
     source: &mut [u8],
     found: &mut [u8],
     frame: &mut [u8],
-)
+) -> io::Result<()>
     requires { Room table.old source.old found.old }
 {
-    let numbers = published::table_length(rate as u32);
+    let numbers = published::table_length(u32::from(rate));
     let octets = 120 * test_samples::source_length(rate);
-    published::copy_table(rate as u32, &mut table[0..numbers]);
+    published::copy_table(u32::from(rate), &mut table[..numbers]);
     run(
+        rt,
         rate,
         codings,
         readings,
-        &table[0..numbers],
-        &mut source[0..octets],
-        &mut found[0..octets],
+        &table[..numbers],
+        &mut source[..octets],
+        &mut found[..octets],
         frame,
-    );
-}
-
-// The same with the areas as arrays: they become slices here and not where they are made, which is slow to prove.
-fn lent(
-    rate: u16,
-    codings: u64,
-    readings: u64,
-    table: &mut [u16; 510],
-    source: &mut [u8; 608520],
-    found: &mut [u8; 608520],
-    frame: &mut [u8; plan::FRAME_OCTETS],
-) {
-    with_areas(rate, codings, readings, table, source, found, frame);
+    )
 }
 
 // Codes and reads frames of a rate, and writes their line.
-pub fn of_rate(rate: u16, codings: u64, readings: u64) {
-    let mut table = [0u16; 510];
-    let mut source = [0u8; 608520];
-    let mut found = [0u8; 608520];
-    let mut frame = [0u8; plan::FRAME_OCTETS];
-    lent(
+pub fn of_rate(
+    rt: &(impl Print + AllocGlobal),
+    rate: u16,
+    codings: u64,
+    readings: u64,
+) -> io::Result<()> {
+    let mut table = vec![in rt.alloc(); 0u16; 510]?;
+    let mut source = vec![in rt.alloc(); 0u8; 608520]?;
+    let mut found = vec![in rt.alloc(); 0u8; 608520]?;
+    let mut frame = vec![in rt.alloc(); 0u8; plan::FRAME_OCTETS]?;
+    with_areas(
+        rt,
         rate,
         codings,
         readings,
@@ -147,5 +147,5 @@ pub fn of_rate(rate: u16, codings: u64, readings: u64) {
         &mut source,
         &mut found,
         &mut frame,
-    );
+    )
 }

@@ -1,8 +1,9 @@
 // What the lines of test programs are made of.
-use libc::STDOUT_FILENO;
+#![tactic(auto)]
+
+use std::io;
 
 // A number behind its name, on standard output.
-pub fn field(name: &[u8], value: u64) {
-    io::write_all(STDOUT_FILENO, name);
-    io::print_decimal(STDOUT_FILENO, value);
+pub fn field(rt: &impl Print, name: &str, value: u64) -> io::Result<()> {
+    print!(rt; "{name}{value}")
 }

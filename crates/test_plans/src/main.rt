@@ -1,8 +1,12 @@
 // Cases of documents 01 and 02 around plans: texts that plan-list reads or refuses, and openings and passes.
-mod states;
-mod texts;
+#![tactic(auto)]
 
-fn main() {
-    texts::run();
-    states::run();
+mod cases;
+mod states;
+
+use std::io;
+
+fn main(rt: HostRuntime) -> io::Result<()> {
+    cases::run(&rt)?;
+    states::run(&rt)
 }

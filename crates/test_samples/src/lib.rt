@@ -1,4 +1,6 @@
 // What the programs that try slots and frames share: plans and their published tables, octets to code, and a digest.
+#![tactic(auto)]
+
 mod octets;
 mod plans;
 mod rates;
