@@ -1,5 +1,6 @@
 // The 192 BCH bits of a message, eight bits at a time.
 #![tactic(auto)]
+
 mod division;
 mod message;
 mod table;

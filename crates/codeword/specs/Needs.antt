@@ -15,7 +15,6 @@ pub record Fits (F : Shape) : Type 0 where
   pub input : F.before + (run_bits F + F.behind) ≡ 374 * F.rows
   pub whole : run_bits F + positions F.rows ≡ 8 * F.octets
 
-
 -- the bits before the parity, and an area for the parity input
 pub record Input (F : Shape) (run input : List ℕ) : Type 0 where
   pub fits : Fits F

@@ -1,6 +1,7 @@
 // A codeword: what a slot and a TMCC block are, at other sizes. A message, its BCH bits and tail bits, dispersed, and
 // behind them the parity of these bits with zeros before and behind them.
 #![tactic(auto)]
+
 mod answers;
 mod calls;
 mod input;

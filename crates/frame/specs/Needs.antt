@@ -17,7 +17,6 @@ pub record Lent (p : Plan) (mask start : ℕ) (ts : List ℕ) (source frame : �
   pub frame_long : frame ≡ frame_octets
   pub tables : tables_ok p ts ≡ true
 
-
 -- where each group's table begins, and where the last one ends
 abbrev pub Ends : Plan → List ℕ → List ℕ → Type 0
 Ends p ts ends = (g : ℕ) → g ≤ p.count → get_or ends g 0 ≡ table_from p ts g

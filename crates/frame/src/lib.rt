@@ -1,6 +1,7 @@
 // What coding and reading a whole frame share: the number of a whole-frame call, where the groups' tables lie, and how many
 // header and data octets a slot has.
 #![tactic(auto)]
+
 mod calls;
 mod sources;
 mod tables;

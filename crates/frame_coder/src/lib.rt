@@ -1,5 +1,6 @@
 // Coding a whole frame, slot by slot.
 #![tactic(auto)]
+
 mod code;
 
 pub use code::code_frame;

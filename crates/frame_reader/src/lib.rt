@@ -1,5 +1,6 @@
 // Reading a whole frame, slot by slot.
 #![tactic(auto)]
+
 mod read;
 
 pub use read::read_frame;

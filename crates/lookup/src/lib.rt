@@ -1,6 +1,7 @@
 // What a caller asks of a plan before it lends areas: where a slot lies, how many header and data octets a whole frame has,
 // and the published parity tables of its groups.
 #![tactic(auto)]
+
 mod places;
 mod sources;
 mod tables;

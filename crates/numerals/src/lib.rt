@@ -1,5 +1,6 @@
 // Numbers as text: digits, the number that a run of them makes, and the number that a word says.
 #![tactic(auto)]
+
 mod digits;
 mod words;
 

@@ -1,5 +1,6 @@
 // Numbers in octets, the highest octet first, and what is asked of runs of octets.
 #![tactic(auto)]
+
 ghost use Rattle.std.specs.Prelude.{◌≡◌, ◌≤◌, length};
 ghost use Rattle.octet_numbers.specs.Numbers.{big_endian, number_of, sum_of, all_zero};
 ghost use Rattle.octet_numbers.specs.Needs.{Digits};

@@ -1,5 +1,6 @@
 // TS packets of 188 octets and the data octets of a slot, both ways.
 #![tactic(auto)]
+
 mod calls;
 mod carry;
 

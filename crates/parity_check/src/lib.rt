@@ -1,5 +1,6 @@
 // The check of received LDPC parity, over the coder's columns.
 #![tactic(auto)]
+
 ghost use Rattle.std.specs.Prelude.{◌≡◌, ◌<◌, replicate};
 ghost use Rattle.parity_table.specs.Tables.{positions};
 ghost use Rattle.ldpc.specs.Needs.{AddedBySteps};

@@ -18,7 +18,6 @@ pub record Between (a b n : ℕ) : Type 0 where
   pub low : a ≤ n
   pub high : n ≤ b
 
-
 -- a state that is refused neither for its plan nor for its register
 pub record Sound (s : FrameState) : Type 0 where
   pub numbered : 1 ≤ s.slot
@@ -31,7 +30,6 @@ pub record Sound (s : FrameState) : Type 0 where
 pub record Ready (s : FrameState) : Type 0 where
   pub sound : Sound s
   pub left : s.slot ≤ 120
-
 
 -- a slot of an accepted plan
 pub record SlotOf (p : Plan) (s : ℕ) : Type 0 where

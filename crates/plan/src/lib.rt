@@ -1,5 +1,6 @@
 // Rates and modulations, the slot plan, the place of a slot, and the frame state: opening a frame, and passing a dummy.
 #![tactic(auto)]
+
 ghost use Rattle.std.specs.Prelude.{◌≡◌};
 ghost use Rattle.plan.specs.Records.{of_columns, no_plan, state_at, plan_in};
 

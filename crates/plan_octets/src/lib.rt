@@ -1,5 +1,6 @@
 // Plans as octets: modulation, rate and slots of each group, an octet each.
 #![tactic(auto)]
+
 ghost use Rattle.std.specs.Prelude.{◌≡◌, ◌<◌};
 ghost use Rattle.plan_octets.specs.Groups.{column, of_octets, group_of, groups_of};
 ghost use Rattle.plan_octets.specs.Needs.{GroupRoom, Room};

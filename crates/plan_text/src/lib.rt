@@ -1,5 +1,6 @@
 // A plan's text, as plan-list has it, read: lines of modulation, rate and slots.
 #![tactic(auto)]
+
 ghost use Rattle.std.specs.Prelude.{◌&&◌, ◌||◌, not, ◌≡◌, ◌≤◌, eqb, length, get_or};
 ghost use Rattle.plan.specs.Records.{no_plan};
 ghost use Rattle.texts.specs.Characters.{SPACE, LINE-FEED, ZERO};

@@ -1,5 +1,6 @@
 // Signal points of labels: of one symbol, of one in the signal point arrangement signal, and of a run of symbols.
 #![tactic(auto)]
+
 mod calls;
 mod mapping;
 mod numbers;

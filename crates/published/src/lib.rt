@@ -1,5 +1,6 @@
 // The eleven published parity tables, the call that copies one into a lent area, and their lengths.
 #![tactic(auto)]
+
 mod copies;
 mod data;
 

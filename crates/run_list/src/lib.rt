@@ -1,5 +1,6 @@
 // The list of a plan's runs, written, and the whole answer of plan-list.
 #![tactic(auto)]
+
 ghost use Rattle.std.specs.Prelude.{[], ◌≡◌, eqb, leb, length};
 ghost use Rattle.lists.specs.Choice.{pick};
 ghost use Rattle.lists.specs.Count.{joined};

@@ -1,5 +1,6 @@
 // The block of a setting: plan and registers, read and written.
 #![tactic(auto)]
+
 use plan::Plan;
 
 mod blocks;

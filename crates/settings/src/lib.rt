@@ -1,5 +1,6 @@
 // Settings that a card keeps in blocks: plan and registers, read or replaced by the number of their block.
 #![tactic(auto)]
+
 ghost use Rattle.std.specs.Prelude.{◌≡◌, length};
 ghost use Rattle.refusal.specs.Answers.{Answered};
 ghost use Rattle.settings.specs.Cards.{card_ok, card_number, read_answer, replace_number, replaced};

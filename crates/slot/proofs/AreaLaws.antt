@@ -1,9 +1,6 @@
 -- The areas that reading a slot is lent, and the parts of them that a codeword of the slot's rate takes.
-use Rattle.std.specs.Prelude.{◌≡◌, true, List, ℕ, ◌*◌, ◌-◌, length, take}
+use Rattle.std.specs.Prelude.{List, ℕ, ◌*◌, ◌-◌, take}
 use Rattle.std.proofs.Common.{◌∙◌, arith, length-take-le}
-use Rattle.parity_table.specs.Tables.{table_ok}
-use Rattle.plan.specs.Needs.{Rows}
-use Rattle.plan.specs.Sizes.{slot_bits, slot_octets, most_parity}
 use Rattle.codeword.specs.Needs.{Checked as CheckedWord}
 use Rattle.slot.specs.Slots.{slot_shape}
 use Rattle.slot.proofs.SlotLaws.{fits}

@@ -1,5 +1,6 @@
 // What coding and reading a slot share: the number of a slot call, and the sizes at its place.
 #![tactic(auto)]
+
 mod answers;
 mod calls;
 mod sizes;

@@ -1,5 +1,6 @@
 // The lone parity check.
 #![tactic(auto)]
+
 ghost use Rattle.std.specs.Prelude.{◌≡◌};
 ghost use Rattle.slot.specs.Reading.{checked_answer};
 ghost use Rattle.slot.specs.Calls.{form_number, check_answer};

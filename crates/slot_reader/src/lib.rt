@@ -1,5 +1,6 @@
 // Reading a slot.
 #![tactic(auto)]
+
 mod reader;
 mod received;
 

@@ -1,5 +1,6 @@
 // Labels of the symbols of slots and TMCC blocks, both ways.
 #![tactic(auto)]
+
 mod calls;
 mod numbers;
 mod places;

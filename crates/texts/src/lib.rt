@@ -1,5 +1,6 @@
 // Texts written into an area, one behind the other: each function answers the place behind its text.
 #![tactic(auto)]
+
 ghost use Rattle.std.specs.Prelude.{◌∷◌, [], ◌≡◌, ◌+◌, ◌≤◌, length};
 ghost use Rattle.texts.specs.Decimals.{decimal, field};
 ghost use Rattle.texts.specs.Needs.{Room, Number};

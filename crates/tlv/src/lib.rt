@@ -1,5 +1,6 @@
 // TLV packets: what filling and reading share, and what both calls answer.
 #![tactic(auto)]
+
 mod packets;
 mod sizes;
 

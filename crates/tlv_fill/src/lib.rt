@@ -1,5 +1,6 @@
 // Filling the data octets of slots with TLV packets.
 #![tactic(auto)]
+
 mod begins;
 mod calls;
 mod octets;

@@ -1,5 +1,6 @@
 // Reading TLV packets from the data octets of slots.
 #![tactic(auto)]
+
 mod calls;
 mod slots;
 mod steps;

@@ -1,5 +1,6 @@
 // TMCC blocks: their sizes, and what coding and reading them test alike.
 #![tactic(auto)]
+
 ghost use Rattle.std.specs.Prelude.{◌≡◌};
 ghost use Rattle.tmcc.specs.Blocks.{block_shape};
 

@@ -1,5 +1,6 @@
 // Coding a TMCC block: TMCC bits and BCH bits, dispersed, with the parity behind them.
 #![tactic(auto)]
+
 ghost use Rattle.std.specs.Prelude.{◌≡◌, []};
 ghost use Rattle.refusal.specs.Answers.{Answered};
 ghost use Rattle.codeword.specs.Words.{plain};

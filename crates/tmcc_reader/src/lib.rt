@@ -1,5 +1,6 @@
 // Reading a TMCC block.
 #![tactic(auto)]
+
 ghost use Rattle.std.specs.Prelude.{◌≡◌};
 ghost use Rattle.refusal.specs.Answers.{Answered};
 ghost use Rattle.codeword.specs.Reading.{message_in, wrong_position, word_answer, word_number};

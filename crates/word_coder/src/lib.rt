@@ -1,5 +1,6 @@
 // Coding a word, once its message, BCH bits and tail stand at the head of its bits.
 #![tactic(auto)]
+
 ghost use Rattle.std.specs.Prelude.{◌≡◌, take};
 ghost use Rattle.bits.specs.Octets.{octets_of};
 ghost use Rattle.dispersal.specs.Dispersal.{dispersed};

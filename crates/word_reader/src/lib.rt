@@ -1,5 +1,6 @@
 // Reading a received word: its parity, its dispersal, its BCH bits.
 #![tactic(auto)]
+
 ghost use Rattle.std.specs.Prelude.{◌≡◌};
 ghost use Rattle.bits.specs.Octets.{bits_of};
 ghost use Rattle.codeword.specs.Reading.{wrong_position, parity_number, checks_number};

@@ -3,7 +3,6 @@ use mathlib.Core.Path.{◌∙◌}
 use Prim.Native.Nat.{◌+◌, ◌*◌, ◌%◌, ◌≤◌}
 use native.Mathlib.Omega.{arith}
 use lib.ListN.{length}
-use borrow.Author.Rules.{rules}
 use Rattle.lists.specs.PartLaws.{length_part}
 use Rattle.ldpc.proofs.StepLaws.{turn_below}
 use Rattle.ldpc.proofs.Turning.{column_ends, address_added}

@@ -1,17 +1,13 @@
 -- `ldpc::add_row`: the row is added through the addresses passed.
 use mathlib.Core.Path.{◌≡◌, ◌∙◌}
-use mathlib.Core.List.{List}
-use Prim.Native.Nat.{ℕ, ◌+◌, ◌-◌, ◌≤◌}
+use Prim.Native.Nat.{◌+◌, ◌-◌}
 use native.Mathlib.Omega.{arith}
 use borrow.Author.Rules.{rules}
 use Rattle.lists.specs.PartLaws.{length_part}
 use Rattle.ldpc.specs.Parity.{spacing}
-use Rattle.ldpc.specs.Stepping.{row_stepped}
 use Rattle.ldpc.proofs.SteppedParityLaws.{row_stepped_none, row_stepped_more}
 use Rattle.ldpc.specs.Columns.{across}
-use Rattle.ldpc.specs.Needs.{Added}
 use Rattle.ldpc.proofs.AddedLaws.{added_none, added_then}
-use Rattle.ldpc.proofs.add_row.Invariants.{Inv}
 use Rattle.ldpc.proofs.add_row.Goals as goal
 
 pub loop-i-init : goal.loop-i-init

@@ -1,18 +1,12 @@
 -- `ldpc::add_rows`: the rows passed are added, and the next begins at s.
-use mathlib.Core.Path.{◌≡◌, sym, ap, ◌∙◌}
+use mathlib.Core.Path.{◌≡◌}
 use mathlib.Core.List.{List}
 use Prim.Native.Nat.{ℕ, ◌-◌, ◌≤◌}
-use native.Mathlib.Omega.{arith}
-use lib.ListN.{get_or}
-use borrow.Author.Rules.{rules}
-use Rattle.parity_table.specs.Tables.{positions, row_start}
-use Rattle.parity_table.specs.TableLaws.{Row, row_start_none, row_start_more, row_at}
+use Rattle.parity_table.specs.Tables.{row_start}
 use Rattle.ldpc.specs.Parity.{spacing}
 use Rattle.ldpc.specs.Stepping.{times_stepped}
-use Rattle.ldpc.proofs.SteppedParityLaws.{times_stepped_none, times_stepped_more}
 use Rattle.ldpc.specs.Columns.{across}
 use Rattle.ldpc.specs.Needs.{Added}
-use Rattle.ldpc.proofs.AddedLaws.{added_none, added_then}
 use Rattle.ldpc.proofs.add_rows.Given as goal
 
 pub record Inv (rows : ℕ) (table bits found columns : List ℕ) (s r : ℕ) : Type 0 where

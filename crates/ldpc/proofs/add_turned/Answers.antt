@@ -1,5 +1,4 @@
 -- `ldpc::add_turned`: the two runs are the turned row.
-use borrow.Author.Rules.{rules}
 use Rattle.ldpc.proofs.Turning.{two_runs}
 use Rattle.ldpc.proofs.add_turned.Goals as goal
 

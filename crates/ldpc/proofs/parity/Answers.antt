@@ -5,7 +5,6 @@ use Prim.Native.Nat.{ℕ, ◌-◌}
 use native.Mathlib.Omega.{arith}
 use lib.ListN.{length, take, replicate, length-replicate}
 use lib.Seq.{length-take-le}
-use borrow.Author.Rules.{rules}
 use Rattle.parity_table.specs.Tables.{positions}
 use Rattle.parity_table.specs.Needs.{Rows}
 use Rattle.ldpc.proofs.SteppedParityLaws.{parity_stepped_law}

@@ -2,7 +2,6 @@
 use mathlib.Core.Path.{ap, ◌∙◌}
 use Prim.Native.Nat.{ℕ}
 use lib.ListN.{replicate}
-use borrow.Author.Rules.{rules}
 use Rattle.ldpc.proofs.AddedLaws.{coded}
 use Rattle.ldpc.proofs.parity_in_columns.Goals as goal
 

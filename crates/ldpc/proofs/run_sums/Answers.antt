@@ -1,11 +1,11 @@
 -- `ldpc::run_sums`: the sums passed are running sums; the last one is carried on, and the place is that of the position.
 use mathlib.Core.Path.{◌≡◌, sym, ap, ◌∙◌}
 use mathlib.Core.List.{List}
-use Prim.Native.Nat.{ℕ, ◌+◌, ◌*◌, ◌-◌, ◌%◌, ◌<◌, ◌≤◌}
+use Prim.Native.Nat.{ℕ, ◌+◌, ◌*◌, ◌-◌, ◌%◌, ◌<◌}
 use native.Mathlib.Nat.{mul-add}
 use native.Mathlib.Decide.{ℕ_discrete}
 use native.Mathlib.Omega.{arith}
-use lib.ListN.{length, get_or, set, length-set}
+use lib.ListN.{get_or, set, length-set}
 use lib.Seq.{get_or-set_same, get_or-set_other}
 use borrow.Author.Rules.{rules}
 use Rattle.lists.specs.Count.{sum}
@@ -15,7 +15,7 @@ use Rattle.ldpc.proofs.ParityLaws.{running_sum}
 use Rattle.ldpc.specs.Columns.{across, sum_at}
 use Rattle.ldpc.proofs.ColumnLaws.{across_at, across_below}
 use Rattle.ldpc.proofs.AddedLaws.{carry_more}
-use Rattle.ldpc.proofs.run_sums.Invariants.{Inner, Outer, Run}
+use Rattle.ldpc.proofs.run_sums.Invariants.{Run}
 use Rattle.ldpc.proofs.run_sums.Goals.{In-loop-c}
 use Rattle.ldpc.proofs.run_sums.Goals as goal
 

@@ -1,20 +1,11 @@
 -- `ldpc::run_sums`: the sums passed are running sums; the last one is carried on, and the place is that of the position.
-use mathlib.Core.Path.{◌≡◌, sym, ap, ◌∙◌}
+use mathlib.Core.Path.{◌≡◌}
 use mathlib.Core.List.{List}
 use Prim.Native.Nat.{ℕ, ◌+◌, ◌*◌, ◌-◌, ◌%◌, ◌<◌, ◌≤◌}
-use native.Mathlib.Nat.{mul-add}
-use native.Mathlib.Decide.{ℕ_discrete}
-use native.Mathlib.Omega.{arith}
-use lib.ListN.{length, get_or, set, length-set}
-use lib.Seq.{get_or-set_same, get_or-set_other}
-use borrow.Author.Rules.{rules}
+use lib.ListN.{length, get_or}
 use Rattle.lists.specs.Count.{sum}
-use Rattle.lists.specs.CountLaws.{sum_none, table_is}
 use Rattle.ldpc.specs.Parity.{running}
-use Rattle.ldpc.proofs.ParityLaws.{running_sum}
-use Rattle.ldpc.specs.Columns.{across, sum_at}
-use Rattle.ldpc.proofs.ColumnLaws.{across_at, across_below}
-use Rattle.ldpc.proofs.AddedLaws.{carry_more}
+use Rattle.ldpc.specs.Columns.{sum_at}
 use Rattle.ldpc.proofs.run_sums.Given as goal
 
 -- the positions passed

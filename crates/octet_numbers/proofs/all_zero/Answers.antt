@@ -1,17 +1,13 @@
 -- `octet_numbers::all_zero`: the octets passed are zeros.
 use mathlib.Core.Path.{◌≡◌, sym}
-use mathlib.Core.Bool.{true}
-use mathlib.Core.List.{List}
-use Prim.Native.Nat.{ℕ, ◌-◌, ◌≤◌}
+use Prim.Native.Nat.{◌-◌}
 use native.Mathlib.Omega.{arith}
 use borrow.Author.Rules.{rules}
 use borrow.Author.Tests.{eq-eqb, ne_eqb}
 use lib.Dec.{eqb}
 use lib.ListN.{length, get_or}
-use Rattle.lists.specs.Count.{every}
 use Rattle.lists.specs.CountLaws.{every_none, every_next, every_not}
 use Rattle.octet_numbers.specs.Numbers.{all_zero}
-use Rattle.octet_numbers.proofs.all_zero.Invariants.{Inv}
 use Rattle.octet_numbers.proofs.all_zero.Goals as goal
 
 pub loop-k-init : goal.loop-k-init

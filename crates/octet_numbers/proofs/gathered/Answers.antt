@@ -1,7 +1,6 @@
 -- `octet_numbers::gathered`: the digits of octets are bits, and the number that they make is the octets'.
 use mathlib.Core.Path.{◌∙◌}
 use native.Mathlib.Omega.{arith}
-use borrow.Author.Rules.{rules}
 use Rattle.bits.specs.OctetLaws.{length_bits_of, bits_of_bits}
 use Rattle.octet_numbers.specs.Numbers.{number_of}
 use Rattle.octet_numbers.proofs.gathered.Goals as goal

@@ -3,7 +3,6 @@ use Prim.Native.Nat.{◌*◌}
 use native.Mathlib.Omega.{arith}
 use lib.ListN.{length}
 use lib.Pow.{pow_mono}
-use borrow.Author.Rules.{rules}
 use Rattle.octet_numbers.specs.NumberLaws.{number_below}
 use Rattle.octet_numbers.proofs.number_of.Goals as goal
 

@@ -1,6 +1,5 @@
 -- `octet_numbers::spread`: the digits of a number are bits, and the octets that they make are its own.
 use mathlib.Core.Path.{◌∙◌}
-use borrow.Author.Rules.{rules}
 use Rattle.bits.specs.DigitLaws.{length_digits, digits_bits}
 use Rattle.octet_numbers.specs.Numbers.{big_endian}
 use Rattle.octet_numbers.proofs.spread.Goals as goal

@@ -1,14 +1,11 @@
 -- `octet_numbers::sum_of`: the sum of the octets passed, of which each adds less than 256.
 use mathlib.Core.Path.{◌≡◌, sym, ap}
-use mathlib.Core.List.{List}
-use Prim.Native.Nat.{ℕ, ◌*◌, ◌-◌, ◌%◌, ◌≤◌}
+use Prim.Native.Nat.{ℕ, ◌-◌, ◌%◌}
 use native.Mathlib.Omega.{arith}
 use borrow.Author.Rules.{rules}
 use lib.ListN.{length, get_or}
-use Rattle.lists.specs.Count.{sum}
 use Rattle.lists.specs.CountLaws.{sum_none, sum_more}
 use Rattle.octet_numbers.specs.Numbers.{sum_of}
-use Rattle.octet_numbers.proofs.sum_of.Invariants.{Inv}
 use Rattle.octet_numbers.proofs.sum_of.Goals as goal
 
 pub loop-k-init : goal.loop-k-init

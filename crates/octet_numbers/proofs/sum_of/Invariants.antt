@@ -1,13 +1,9 @@
 -- `octet_numbers::sum_of`: the sum of the octets passed, of which each adds less than 256.
-use mathlib.Core.Path.{◌≡◌, sym, ap}
+use mathlib.Core.Path.{◌≡◌}
 use mathlib.Core.List.{List}
-use Prim.Native.Nat.{ℕ, ◌*◌, ◌-◌, ◌%◌, ◌≤◌}
-use native.Mathlib.Omega.{arith}
-use borrow.Author.Rules.{rules}
+use Prim.Native.Nat.{ℕ, ◌*◌, ◌-◌, ◌≤◌}
 use lib.ListN.{length, get_or}
 use Rattle.lists.specs.Count.{sum}
-use Rattle.lists.specs.CountLaws.{sum_none, sum_more}
-use Rattle.octet_numbers.specs.Numbers.{sum_of}
 use Rattle.octet_numbers.proofs.sum_of.Given as goal
 
 pub record Inv (octets : List ℕ) (made k : ℕ) : Type 0 where

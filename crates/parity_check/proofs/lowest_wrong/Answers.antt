@@ -11,15 +11,14 @@ use Rattle.lists.specs.PartLaws.{length_part}
 use Rattle.parity_table.specs.Tables.{positions, row_start, table_ok}
 use Rattle.parity_table.specs.TableLaws.{Row, row_start_none, row_start_more, row_at}
 use Rattle.ldpc.specs.Parity.{spacing}
-use Rattle.ldpc.specs.Stepping.{row_stepped, times_stepped}
+use Rattle.ldpc.specs.Stepping.{times_stepped}
 use Rattle.ldpc.proofs.SteppedParityLaws.{row_stepped_none, row_stepped_more, times_stepped_none}
 use Rattle.ldpc.specs.Columns.{across}
 use Rattle.ldpc.proofs.ColumnLaws.{place_below}
 use Rattle.ldpc.specs.Needs.{Added, AddedBySteps}
 use Rattle.ldpc.proofs.AddedLaws.{added_none, added_then}
 use Rattle.parity_check.specs.CheckLaws.{lowest_wrong_is}
-use Rattle.parity_check.proofs.Passing.{Passed, times_stepped_next, added_rows, passed_none, parity_at, passed_more}
-use Rattle.parity_check.proofs.lowest_wrong.Invariants.{AtAddress, AtBit, AtRow}
+use Rattle.parity_check.proofs.Passing.{times_stepped_next, added_rows, passed_none, parity_at, passed_more}
 use Rattle.parity_check.proofs.lowest_wrong.Goals as goal
 
 -- the row at s, before the last of the rows with addresses
@@ -191,5 +190,8 @@ returns-then-last-wide c =
     let a = c.args in
     let h : c.loop.position < positions c.args.rows = omega (arith, c.loop.invariant.reached, c.rows.invariant.reached) in
     let p = (parity_at a.rows a.table.now a.bits.now _ r.rows.sums c.requires.ready.ok refl (full a.rows c.rows.r a.table.now a.bits.now a.sums.now c.rows.sums c.fill.new.to c.fill.ensures c.requires.ready.room c.if-r-rows.false c.rows.invariant.adding) a.received.now l.loop.last l.loop.position l.loop.place w.wide.result
-    l.loop.invariant.passed h w.wide.ensures.0).1 in record { value = sym (lowest_wrong_is a.rows a.table.now a.bits.now a.received.now l.loop.position (omega arith) l.loop.invariant.passed.right
-          (λ _ e. c.if-last-wide.true (p ∙ e ∙ sym c.wide-in-loop.ensures.0))); added_by_steps = full a.rows c.rows.r a.table.now a.bits.now a.sums.now c.rows.sums c.fill.new.to c.fill.ensures c.requires.ready.room c.if-r-rows.false c.rows.invariant.adding }
+    l.loop.invariant.passed h w.wide.ensures.0).1 in record {
+      value = sym (lowest_wrong_is a.rows a.table.now a.bits.now a.received.now l.loop.position (omega arith) l.loop.invariant.passed.right
+          (λ _ e. c.if-last-wide.true (p ∙ e ∙ sym c.wide-in-loop.ensures.0)));
+      added_by_steps = full a.rows c.rows.r a.table.now a.bits.now a.sums.now c.rows.sums c.fill.new.to c.fill.ensures c.requires.ready.room c.if-r-rows.false c.rows.invariant.adding;
+    }

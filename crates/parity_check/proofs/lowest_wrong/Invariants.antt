@@ -1,23 +1,14 @@
 -- `parity_check::lowest_wrong`: in the first rows the columns have the sums of the rows and addresses passed; in the
 -- others the running sum was right at every position passed.
-use mathlib.Core.Path.{◌≡◌, refl, sym, ap, ◌∙◌}
+use mathlib.Core.Path.{◌≡◌}
 use mathlib.Core.List.{List}
-use Prim.Native.Nat.{ℕ, ◌+◌, ◌*◌, ◌-◌, ◌<◌, ◌≤◌, min}
-use native.Mathlib.Omega.{arith}
-use lib.ListN.{length, get_or, replicate}
-use borrow.Author.Rules.{rules}
-use Rattle.lists.specs.PartLaws.{length_part}
-use Rattle.parity_table.specs.Tables.{positions, row_start}
-use Rattle.parity_table.specs.TableLaws.{Row, row_start_none, row_start_more, row_at}
+use Prim.Native.Nat.{ℕ, ◌+◌, ◌*◌, ◌-◌, ◌≤◌, min}
+use Rattle.parity_table.specs.Tables.{row_start}
 use Rattle.ldpc.specs.Parity.{spacing}
 use Rattle.ldpc.specs.Stepping.{row_stepped, times_stepped}
-use Rattle.ldpc.proofs.SteppedParityLaws.{row_stepped_none, row_stepped_more, times_stepped_none}
 use Rattle.ldpc.specs.Columns.{across}
-use Rattle.ldpc.proofs.ColumnLaws.{place_below}
-use Rattle.ldpc.specs.Needs.{Added, AddedBySteps}
-use Rattle.ldpc.proofs.AddedLaws.{added_none, added_then}
-use Rattle.parity_check.specs.CheckLaws.{lowest_wrong_is}
-use Rattle.parity_check.proofs.Passing.{Passed, times_stepped_next, added_rows, passed_none, parity_at, passed_more}
+use Rattle.ldpc.specs.Needs.{Added}
+use Rattle.parity_check.proofs.Passing.{Passed}
 use Rattle.parity_check.proofs.lowest_wrong.Given as goal
 
 -- the columns and the parity positions passed, before row r of the slot

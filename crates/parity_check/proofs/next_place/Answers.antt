@@ -1,6 +1,5 @@
 -- `parity_check::next_place`: each return has the test that picks it.
 use native.Mathlib.Omega.{arith}
-use borrow.Author.Rules.{rules}
 use borrow.Author.Tests.{le-leb, lt-leb}
 use Rattle.parity_check.proofs.next_place.Goals as goal
 

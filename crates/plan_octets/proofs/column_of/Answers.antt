@@ -1,5 +1,4 @@
 -- `plan_octets::column_of`: the eight octets one by one.
-use borrow.Author.Rules.{rules}
 use Rattle.plan_octets.specs.Groups.{column}
 use Rattle.plan_octets.proofs.column_of.Goals as goal
 

@@ -1,6 +1,5 @@
 -- `plan_octets::of_octets`: the plan of the three columns.
 use mathlib.Core.Path.{◌∙◌}
-use borrow.Author.Rules.{rules}
 use Rattle.plan_octets.specs.Groups.{of_octets}
 use Rattle.plan_octets.proofs.of_octets.Goals as goal
 

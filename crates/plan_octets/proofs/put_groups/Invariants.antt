@@ -1,15 +1,9 @@
 -- `plan_octets::put_groups`: the area is filled group by group.
-use mathlib.Core.Path.{◌≡◌, sym, ◌∙◌}
 use mathlib.Core.List.{List}
-use Prim.Native.Nat.{ℕ, ◌+◌, ◌*◌, ◌-◌, ◌≤◌}
-use native.Mathlib.Omega.{arith}
-use borrow.Author.Rules.{rules}
+use Prim.Native.Nat.{ℕ, ◌*◌, ◌-◌, ◌≤◌}
 use Rattle.lists.specs.Filling.{Filling}
-use Rattle.lists.specs.FillingLaws.{filling_none, filling_part, filling_all}
-use Rattle.lists.specs.PartLaws.{length_part}
 use Rattle.plan.specs.declared.Plan.{Plan}
 use Rattle.plan_octets.specs.Groups.{groups_of}
-use Rattle.plan_octets.specs.GroupLaws.{length_groups_of, group_in}
 use Rattle.plan_octets.proofs.put_groups.Given as goal
 
 pub record Inv (p : Plan) (found octets : List ℕ) (g : ℕ) : Type 0 where

@@ -1,7 +1,6 @@
 -- `plan_text::digits_at`: each way out rewrites with the tests on the way to it.
 use mathlib.Core.Path.{◌≡◌, sym, ap, ◌∙◌}
 use Prim.Native.Nat.{◌+◌}
-use borrow.Author.Rules.{rules}
 use lib.ListN.{get_or}
 use Rattle.numerals.specs.Numerals.{is_digit}
 use Rattle.plan_text.specs.Reading.{digits_at}

@@ -2,7 +2,6 @@
 use mathlib.Core.Path.{ap}
 use Prim.Native.Nat.{ℕ, ◌+◌, ◌≤◌}
 use native.Mathlib.Omega.{arith}
-use borrow.Author.Rules.{rules}
 use Rattle.plan_text.specs.ReadingLaws.{digits_most}
 use Rattle.plan_text.proofs.field_end.Goals.{After-digits_at}
 use Rattle.plan_text.proofs.field_end.Goals as goal

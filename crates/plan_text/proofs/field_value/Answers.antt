@@ -1,7 +1,6 @@
 -- `plan_text::field_value`: the digits counted make a number of at most three digits.
 use mathlib.Core.Path.{◌≡◌, ap, ◌∙◌}
 use native.Mathlib.Omega.{arith}
-use borrow.Author.Rules.{rules}
 use Rattle.numerals.specs.Numerals.{value_of}
 use Rattle.plan_text.specs.Reading.{digits_at}
 use Rattle.plan_text.specs.ReadingLaws.{digits_most, digits_are, field_small}

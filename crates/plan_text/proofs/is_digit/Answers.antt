@@ -1,7 +1,6 @@
 -- `plan_text::is_digit`: the test is that of the definition.
 use mathlib.Core.Path.{ap}
 use Prim.Native.Nat.{ℕ}
-use borrow.Author.Rules.{rules}
 use lib.Dec.{ltb}
 use Rattle.plan_text.proofs.is_digit.Goals as goal
 

@@ -1,6 +1,5 @@
 -- `plan_text::line_ok`: each way out rewrites with the tests on the way to it.
 use mathlib.Core.Path.{sym, ◌∙◌}
-use borrow.Author.Rules.{rules}
 use Rattle.plan_text.proofs.line_ok.Goals as goal
 
 pub returns-then-field_ok-2 : goal.returns-then-field_ok-2

@@ -1,7 +1,6 @@
 -- `plan_text::no_leading_zero`: the two tests are those of the contract.
 use mathlib.Core.Path.{ap}
 use Prim.Native.Nat.{ℕ}
-use borrow.Author.Rules.{rules}
 use borrow.Author.Tests.{eq-eqb, ne_eqb}
 use mathlib.Core.Bool.{not}
 use lib.Dec.{eqb}

@@ -3,13 +3,12 @@ use mathlib.Core.Path.{◌≡◌, sym, ap, ◌∙◌}
 use mathlib.Core.List.{List}
 use Prim.Native.Nat.{ℕ, ◌+◌, ◌-◌, ◌<◌}
 use native.Mathlib.Omega.{arith}
-use borrow.Author.Rules.{rules}
-use lib.ListN.{length, set}
+use lib.ListN.{set}
 use Rattle.plan_text.specs.declared.Line.{Line}
-use Rattle.plan_text.specs.Reading.{line_ok, line_of, line_start, text_number, column, plan_of, read_as}
+use Rattle.plan_text.specs.Reading.{line_ok, line_of, line_start, text_number, plan_of, read_as}
 use Rattle.plan_text.specs.ReadingLaws.{line_ahead, column_none, column_more}
-use Rattle.plan_text.proofs.Lines.{Passed, passed_none, passed_next, passed_many, passed_wrong, passed_all, passed_ends}
-use Rattle.plan_text.proofs.read_lines.Invariants.{Inv, numbers}
+use Rattle.plan_text.proofs.Lines.{passed_none, passed_next, passed_many, passed_wrong, passed_all, passed_ends}
+use Rattle.plan_text.proofs.read_lines.Invariants.{numbers}
 use Rattle.plan_text.proofs.read_lines.Goals.{After-read_line-line}
 use Rattle.plan_text.proofs.read_lines.Goals as goal
 

@@ -1,14 +1,11 @@
 -- `plan_text::read_lines`: the lines passed are right, and their numbers stand in the columns.
-use mathlib.Core.Path.{◌≡◌, sym, ap, ◌∙◌}
+use mathlib.Core.Path.{◌≡◌}
 use mathlib.Core.List.{List}
-use Prim.Native.Nat.{ℕ, ◌+◌, ◌-◌, ◌<◌}
-use native.Mathlib.Omega.{arith}
-use borrow.Author.Rules.{rules}
-use lib.ListN.{length, set}
+use Prim.Native.Nat.{ℕ, ◌-◌}
+use lib.ListN.{length}
 use Rattle.plan_text.specs.declared.Line.{Line}
-use Rattle.plan_text.specs.Reading.{line_ok, line_of, line_start, text_number, column, plan_of, read_as}
-use Rattle.plan_text.specs.ReadingLaws.{line_ahead, column_none, column_more}
-use Rattle.plan_text.proofs.Lines.{Passed, passed_none, passed_next, passed_many, passed_wrong, passed_all, passed_ends}
+use Rattle.plan_text.specs.Reading.{line_of, line_start, column}
+use Rattle.plan_text.proofs.Lines.{Passed}
 use Rattle.plan_text.proofs.read_lines.Given as goal
 
 -- one number of each line, as the definition of the plan has it

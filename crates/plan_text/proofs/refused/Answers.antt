@@ -1,5 +1,4 @@
 -- `plan_text::refused`: the number, with the plan of no groups.
-use borrow.Author.Rules.{rules}
 use Rattle.plan_text.proofs.refused.Goals as goal
 
 pub returns : goal.returns

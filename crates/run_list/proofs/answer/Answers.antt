@@ -48,7 +48,7 @@ returns-then-read-ne0 c =
     let r = b in
     let t = r.args.text.now in
     let q =
-      whole _ t _ _ _ (rw (← numbered, ne_eqb _ 0 b.if-read-ne0.true)) (search rules) c.write_refusal.ensures in
+    whole _ t _ _ _ (rw (← numbered, ne_eqb _ 0 b.if-read-ne0.true)) (search rules) c.write_refusal.ensures in
     record { value = q.0; out_after = q.1.0; taken = q.1.1 }
 
 pub write_all-requires : goal.write_all-requires
@@ -73,5 +73,5 @@ returns c =
     let r = c in
     let z = c.if-read-ne0.false in
     let q =
-      whole _ r.args.text.now _ _ _ (ap list_text (planned z) ∙ rw (← numbered, eq-eqb _ 0 z)) (search rules) c.write_all.ensures in
+    whole _ r.args.text.now _ _ _ (ap list_text (planned z) ∙ rw (← numbered, eq-eqb _ 0 z)) (search rules) c.write_all.ensures in
     record { value = q.0; out_after = q.1.0; taken = q.1.1 }

@@ -1,14 +1,8 @@
 -- `run_list::data_total`: the data slots of the groups passed.
-use mathlib.Core.Path.{◌≡◌, sym, ap, ◌∙◌}
-use Prim.Native.Nat.{ℕ, ◌*◌, ◌-◌, ◌≤◌}
-use native.Mathlib.Omega.{arith}
-use borrow.Author.Rules.{rules}
+use mathlib.Core.Path.{◌≡◌}
+use Prim.Native.Nat.{◌*◌, ◌-◌, ◌≤◌}
 use Rattle.lists.specs.Count.{sum}
-use Rattle.lists.specs.CountLaws.{sum_none, sum_more}
-use Rattle.plan.proofs.PlanLaws.{accepted}
 use Rattle.plan.specs.Plans.{data_slots_of}
-use Rattle.run_list.specs.Listing.{data_total}
-use Rattle.run_list.proofs.Sizes.{Sizes, sizes}
 use Rattle.run_list.proofs.data_total.Given as goal
 
 abbrev pub invariant-loop-g : goal.invariant-loop-g

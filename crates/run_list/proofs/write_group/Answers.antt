@@ -92,7 +92,7 @@ write_run-requires c =
     }
 
 pub returns : goal.returns
-unfolding group_text run_first run_last kind_word 
+unfolding group_text run_first run_last kind_word
 returns c =
     let group : Sizes c.args.plan c.args.g = sizes c.args.plan c.args.g c.requires.plan c.requires.group in
     let k = carried c.args.plan c.args.g c.args.passed c.index-slots.result c.data_slots.result group c.requires.before c.index-slots.ensures.0 c.data_slots.ensures in

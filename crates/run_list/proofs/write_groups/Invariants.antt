@@ -1,18 +1,12 @@
 -- `run_list::write_groups`: the lines of the groups passed are written.
-use mathlib.Core.Path.{◌≡◌, sym, ap}
+use mathlib.Core.Path.{◌≡◌}
 use mathlib.Core.List.{List}
 use Prim.Native.Nat.{ℕ, ◌*◌, ◌-◌, ◌≤◌}
-use native.Mathlib.Omega.{arith}
-use borrow.Author.Rules.{rules}
 use Rattle.lists.specs.Count.{joined}
-use Rattle.lists.specs.CountLaws.{joined_none, joined_more}
 use Rattle.plan.specs.declared.Plan.{Plan}
 use Rattle.plan.specs.Plans.{slots_before}
-use Rattle.plan.proofs.PlanLaws.{accepted, before_none, before_more}
 use Rattle.run_list.specs.Listing.{group_text}
-use Rattle.run_list.specs.ListingLaws.{length_groups}
-use Rattle.texts.specs.Written.{Written, written_none, written_then, written_is}
-use Rattle.run_list.proofs.Sizes.{Sizes, sizes}
+use Rattle.texts.specs.Written.{Written}
 use Rattle.run_list.proofs.write_groups.Given as goal
 
 pub record Inv (plan : Plan) (at : ℕ) (found out : List ℕ) (count g passed next : ℕ) : Type 0 where

@@ -1,6 +1,5 @@
 -- `settings::card_number`: each way out rewrites with the tests on the way to it.
 use mathlib.Core.Path.{sym, ◌∙◌}
-use borrow.Author.Rules.{rules}
 use borrow.Author.Tests.{lt-ltb, le-ltb}
 use Rattle.settings.specs.Cards.{card_number}
 use Rattle.settings.proofs.card_number.Goals as goal

@@ -1,6 +1,5 @@
 -- `settings::replace_number`: that of the card, then that of plan and registers.
 use mathlib.Core.Path.{ap₂, ◌∙◌}
-use borrow.Author.Rules.{rules}
 use Rattle.lists.specs.Choice.{and_then}
 use Rattle.settings.specs.Cards.{replace_number}
 use Rattle.settings.proofs.replace_number.Goals as goal

@@ -41,7 +41,7 @@ pub slice_bounds-put_block-end : goal.slice_bounds-put_block-end
 slice_bounds-put_block-end c = let h = (lies c).room in search rules
 
 pub put_block-requires : goal.put_block-requires
-unfolding replace_number 
+unfolding replace_number
 put_block-requires c =
     let free : (let a = c.args in replace_number (length a.card.now) a.number a.plan a.registers ≡ 0) = sym c.replace_number-refused.ensures ∙ c.if-refused-ne0.false in
     let lies : (let a = c.args in There (length a.card.now) a.number) =

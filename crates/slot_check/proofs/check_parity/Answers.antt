@@ -1,7 +1,6 @@
 -- `slot_check::check_parity`: the form's number decides, then the parity's.
 use mathlib.Core.Path.{◌≡◌, refl, sym, ap, ◌∙◌}
 use Prim.Native.Nat.{ℕ}
-use borrow.Author.Rules.{rules}
 use lib.ListN.{length-replicate}
 use Rattle.plan.proofs.RateLaws.{rate_rows}
 use Rattle.codeword.proofs.AnswerLaws.{answer≡}

@@ -1,7 +1,6 @@
 -- `slot_check::checked`: the lowest wrong position of the codeword that a slot is.
 use mathlib.Core.Path.{◌≡◌, ap, ap₂, ◌∙◌}
 use native.Mathlib.Omega.{arith}
-use borrow.Author.Rules.{rules}
 use Rattle.codeword.specs.declared.Shape.{Shape}
 use Rattle.codeword.specs.Reading.{wrong_position, parity_number, position_with}
 use Rattle.codeword.proofs.ReadingLaws.{wrong_few}
@@ -26,7 +25,7 @@ parity_number-number-requires c =
     rw h.shape-shape.ensures (fits s.args.rows s.requires.rate)
 
 pub position_with-requires : goal.position_with-requires
-unfolding failing_in 
+unfolding failing_in
 position_with-requires c =
     let wrong-is : (let a = c.args in c.wrong_position-wrong.result ≡ failing_in a.rows a.table.now a.coded.now) =
     let h = c in
@@ -38,7 +37,7 @@ position_with-requires c =
     omega (arith, wrong-is, wrong_few (slot_shape a.rows) a.table.now a.coded.now)
 
 pub returns : goal.returns
-unfolding checked_number failing_in 
+unfolding checked_number failing_in
 returns c =
     let wrong-is : (let a = c.args in c.wrong_position-wrong.result ≡ failing_in a.rows a.table.now a.coded.now) =
     let h = c in

@@ -1,6 +1,5 @@
 -- `texts::digit`: a digit is below 10.
 use native.Mathlib.Omega.{arith}
-use borrow.Author.Rules.{rules}
 use Rattle.texts.proofs.digit.Goals as goal
 
 pub returns : goal.returns

@@ -9,7 +9,6 @@ use Rattle.texts.specs.Written.{written_then, written_is}
 use Rattle.texts.proofs.put_decimal.Goals as goal
 
 cons≡ : {x y : ℕ} {u v : List ℕ} → x ≡ y → u ≡ v → x ∷ u ≡ y ∷ v
-
 cons≡ p q = ap₂ (λ (z : ℕ) (zs : List ℕ). z ∷ zs) p q
 
 pub returns-then-n-lt10 : goal.returns-then-n-lt10

@@ -10,7 +10,6 @@ use lib.Seq.{take-suc, take_all, length-take-le}
 use Rattle.lists.specs.Parts.{put}
 use Rattle.lists.specs.PartLaws.{put_one, put_put, put_none}
 use Rattle.texts.specs.Written.{written}
-use Rattle.texts.proofs.put_text.Invariants.{Inv}
 use Rattle.texts.proofs.put_text.Goals as goal
 
 -- one octet more

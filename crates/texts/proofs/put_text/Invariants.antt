@@ -1,15 +1,9 @@
 -- `texts::put_text`: the octets passed are written.
-use mathlib.Core.Path.{◌≡◌, refl, sym, ap, ◌∙◌}
-use mathlib.Core.List.{List, [], ◌∷◌}
-use Prim.Native.Nat.{ℕ, ◌+◌, ◌-◌, ◌≤◌, ◌<◌}
-use native.Mathlib.Omega.{arith}
-use native.Mathlib.Numerals.{add-one}
-use borrow.Author.Rules.{rules}
-use lib.ListN.{length, get_or, set, take, length-set}
-use lib.Seq.{take-suc, take_all, length-take-le}
+use mathlib.Core.Path.{◌≡◌}
+use mathlib.Core.List.{List}
+use Prim.Native.Nat.{ℕ, ◌+◌, ◌-◌, ◌≤◌}
+use lib.ListN.{length, take}
 use Rattle.lists.specs.Parts.{put}
-use Rattle.lists.specs.PartLaws.{put_one, put_put, put_none}
-use Rattle.texts.specs.Written.{written}
 use Rattle.texts.proofs.put_text.Given as goal
 
 pub record Inv (found : List ℕ) (at : ℕ) (text out : List ℕ) (i next : ℕ) : Type 0 where

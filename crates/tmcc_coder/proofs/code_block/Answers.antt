@@ -1,7 +1,6 @@
 -- `tmcc_coder::code_block`: the number decides between the octets' block and the area as found.
 use mathlib.Core.Path.{◌≡◌, sym, ◌∙◌}
 use Prim.Native.Nat.{ℕ}
-use borrow.Author.Rules.{rules}
 use lib.ListN.{length-replicate}
 use Rattle.refusal.specs.AnswerLaws.{refused, accepted}
 use Rattle.dispersal.specs.RegisterLaws.{register_is}

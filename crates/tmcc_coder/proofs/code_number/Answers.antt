@@ -1,7 +1,6 @@
 -- `tmcc_coder::code_number`: the number of what is lent decides, then the last two bits.
 use mathlib.Core.Path.{◌≡◌, sym, ◌∙◌}
 use native.Mathlib.Omega.{arith}
-use borrow.Author.Rules.{rules}
 use borrow.Author.Tests.{eq-eqb, ne_eqb}
 use lib.ListN.{length}
 use Rattle.lists.specs.ChoiceLaws.{then_first}

@@ -1,7 +1,6 @@
 -- `tmcc_reader::read_block`: refused as the call is, or answered as the received block is.
 use mathlib.Core.Path.{◌≡◌, refl, sym, ◌∙◌}
 use Prim.Native.Nat.{ℕ}
-use borrow.Author.Rules.{rules}
 use lib.ListN.{length-replicate}
 use Rattle.lists.specs.ChoiceLaws.{then_first, then_next}
 use Rattle.refusal.specs.AnswerLaws.{refused}

@@ -1,6 +1,5 @@
 -- `word_reader::parity_number`: the two answers are those of the test.
 use mathlib.Core.Path.{◌≡◌}
-use borrow.Author.Rules.{rules}
 use borrow.Author.Tests.{eq-eqb, ne_eqb}
 use Rattle.parity_table.specs.Tables.{positions}
 use Rattle.codeword.specs.Reading.{parity_number}

@@ -3,7 +3,6 @@ use mathlib.Core.Path.{◌≡◌, ap, ap₂, ◌∙◌}
 use mathlib.Core.List.{List}
 use Prim.Native.Nat.{ℕ}
 use native.Mathlib.Omega.{arith}
-use borrow.Author.Rules.{rules}
 use lib.ListN.{length, take, drop}
 use Rattle.lists.specs.PartLaws.{length_part, take_lent, part_rest}
 use Rattle.parity_check.specs.Check.{lowest_wrong}
@@ -35,6 +34,9 @@ returns c =
     let F = a.shape in
     let u = x.expand.new.bits in
     let n = b.run_bits-run.result in
-    let z : n ≡ run_bits F = b.run_bits-run.ensures in record { value = w.lowest_wrong.ensures.value
+    let z : n ≡ run_bits F = b.run_bits-run.ensures in record {
+      value = w.lowest_wrong.ensures.value
           ∙ ap₂ (lowest_wrong F.rows a.table.now) (p.put_input.ensures ∙ ap (parity_input F) (take_lent n (run_bits F) u z)) (part_rest n u ∙ ap (λ (k : ℕ). drop k u) z)
-          ∙ ap (λ (v : List ℕ). lowest_wrong F.rows a.table.now (parity_input F (take (run_bits F) v)) (drop (run_bits F) v)) x.expand.ensures; bits_after = x.expand.ensures }
+          ∙ ap (λ (v : List ℕ). lowest_wrong F.rows a.table.now (parity_input F (take (run_bits F) v)) (drop (run_bits F) v)) x.expand.ensures;
+      bits_after = x.expand.ensures;
+    }

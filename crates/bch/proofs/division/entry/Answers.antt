@@ -1,5 +1,4 @@
 -- `bch::division::entry`: the table's rule at the octet.
-use borrow.Author.Rules.{rules}
 use Rattle.bch.proofs.Entries.{entry_rule}
 use Rattle.bch.proofs.division.entry.Goals as goal
 

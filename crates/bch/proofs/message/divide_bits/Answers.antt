@@ -1,18 +1,14 @@
 -- `bch::message::divide_bits`: the remainder of the bits passed; whole eights are left.
-use mathlib.Core.Path.{◌≡◌, ap, ◌∙◌}
-use mathlib.Core.List.{List}
-use Prim.Native.Nat.{ℕ, ◌+◌, ◌-◌, ◌%◌, ◌≤◌}
+use mathlib.Core.Path.{ap, ◌∙◌}
+use Prim.Native.Nat.{◌+◌, ◌-◌, ◌%◌}
 use native.Mathlib.Omega.{arith}
-use lib.ListN.{length, take, drop, length-take, length-drop}
+use lib.ListN.{length, drop, length-take, length-drop}
 use lib.Seq.{take_all}
 use borrow.Author.Rules.{rules}
 use Rattle.lists.specs.RunLaws.{below_take, below_drop, below_part}
 use Rattle.bch.specs.Division.{remainder_of}
 use Rattle.bch.specs.Bch.{generator}
-use Rattle.bch.specs.declared.division.Words.{Words}
-use Rattle.bch.specs.Words.{worth}
 use Rattle.bch.proofs.Turns.{eight_more, first_few, few_lt, gathered}
-use Rattle.bch.proofs.message.divide_bits.Invariants.{Inv}
 use Rattle.bch.proofs.message.divide_bits.Goals as goal
 
 pub gather-requires : goal.gather-requires

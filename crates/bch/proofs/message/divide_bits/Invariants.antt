@@ -1,17 +1,12 @@
 -- `bch::message::divide_bits`: the remainder of the bits passed; whole eights are left.
-use mathlib.Core.Path.{◌≡◌, ap, ◌∙◌}
+use mathlib.Core.Path.{◌≡◌}
 use mathlib.Core.List.{List}
-use Prim.Native.Nat.{ℕ, ◌+◌, ◌-◌, ◌%◌, ◌≤◌}
-use native.Mathlib.Omega.{arith}
-use lib.ListN.{length, take, drop, length-take, length-drop}
-use lib.Seq.{take_all}
-use borrow.Author.Rules.{rules}
-use Rattle.lists.specs.RunLaws.{below_take, below_drop, below_part}
+use Prim.Native.Nat.{ℕ, ◌-◌, ◌%◌, ◌≤◌}
+use lib.ListN.{length, take}
 use Rattle.bch.specs.Division.{remainder_of}
 use Rattle.bch.specs.Bch.{generator}
 use Rattle.bch.specs.declared.division.Words.{Words}
 use Rattle.bch.specs.Words.{worth}
-use Rattle.bch.proofs.Turns.{eight_more, first_few, few_lt, gathered}
 use Rattle.bch.proofs.message.divide_bits.Given as goal
 
 pub record Inv (run : List ℕ) (at : ℕ) (rest : Words) : Type 0 where

@@ -1,5 +1,4 @@
 -- `bch::message::of_bits`: the remainder's coefficients are the BCH bits.
-use borrow.Author.Rules.{rules}
 use Rattle.bch.specs.Bch.{bch_bits}
 use Rattle.bch.proofs.message.of_bits.Goals as goal
 

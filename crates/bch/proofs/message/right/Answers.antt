@@ -1,5 +1,4 @@
 -- `bch::right`: the BCH bits of the message, compared.
-use borrow.Author.Rules.{rules}
 use Rattle.bch.proofs.message.right.Goals as goal
 
 pub returns : goal.returns

@@ -1,5 +1,4 @@
 -- `codeword::answers::position_with`: the two answers are those of the test.
-use borrow.Author.Rules.{rules}
 use borrow.Author.Tests.{eq-eqb, ne_eqb}
 use Rattle.codeword.proofs.answers.position_with.Goals as goal
 

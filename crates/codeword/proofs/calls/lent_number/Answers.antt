@@ -1,7 +1,6 @@
 -- `codeword::calls::lent_number`: each way out rewrites with the tests on the way to it.
 use mathlib.Core.Path.{refl}
 use lib.ListN.{length}
-use borrow.Author.Rules.{rules}
 use borrow.Author.Tests.{eq-eqb, ne_eqb}
 use Rattle.codeword.specs.Calls.{lent_number}
 use Rattle.codeword.proofs.calls.lent_number.Goals as goal

@@ -1,19 +1,14 @@
 -- `dispersal::eights::fill_masks`: the area is filled with the masks; the next is the one of the place reached.
-use mathlib.Core.Path.{◌≡◌, sym, ap, ap₂, ◌∙◌}
-use mathlib.Core.List.{List}
+use mathlib.Core.Path.{sym, ap, ap₂, ◌∙◌}
 use Prim.Native.Nat.{ℕ, ◌-◌, ◌*◌, ◌/◌, ◌%◌, ◌^◌}
 use native.Mathlib.Nat.{mod-le}
 use native.Mathlib.Omega.{arith}
 use lib.Bits.{bit_xor}
-use lib.ListN.{length}
 use lib.Pow.{pow_pos}
 use borrow.Author.Rules.{rules}
-use Rattle.lists.specs.Filling.{Filling}
 use Rattle.lists.specs.FillingLaws.{filling_none, filling_more, filling_all}
-use Rattle.dispersal.specs.Eights.{mask_at, masks_of}
 use Rattle.dispersal.specs.EightLaws.{drawn_part, mask_none, mask_more, length_masks, masks_at}
 use Rattle.dispersal.proofs.Shift.{weight}
-use Rattle.dispersal.proofs.eights.fill_masks.Invariants.{Inv}
 use Rattle.dispersal.proofs.eights.fill_masks.Goals as goal
 
 pub nonzero_rem-taps : goal.nonzero_rem-taps

@@ -1,6 +1,5 @@
 -- `dispersal::eights::jump`: what is fed in are the feedback bits of the steps so far.
 use mathlib.Core.Path.{◌≡◌, sym, ap, ◌∙◌}
-use mathlib.Core.List.{List}
 use Prim.Native.Nat.{ℕ, ◌+◌, ◌-◌, ◌*◌, ◌%◌, ◌^◌, ◌≤◌, ◌<◌}
 use native.Mathlib.Nat.{mod-eq_of_lt}
 use native.Mathlib.Omega.{arith}
@@ -12,7 +11,6 @@ use borrow.Author.Rules.{rules}
 use Rattle.dispersal.specs.Eights.{feedback}
 use Rattle.dispersal.specs.EightLaws.{feedback_none, feedback_more, feedback_lt}
 use Rattle.dispersal.proofs.Shift.{weight, masked}
-use Rattle.dispersal.proofs.eights.jump.Invariants.{Inv}
 use Rattle.dispersal.proofs.eights.jump.Goals as goal
 
 pub loop-k-init : goal.loop-k-init

@@ -1,5 +1,4 @@
 -- `dispersal::settings_ok`: the two tests are those of the contract.
-use borrow.Author.Rules.{rules}
 use Rattle.dispersal.proofs.register.settings_ok.Goals as goal
 
 pub returns-then-mask_ok : goal.returns-then-mask_ok

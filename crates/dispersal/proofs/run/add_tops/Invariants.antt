@@ -1,14 +1,8 @@
 -- `dispersal::run::add_tops`: the area is filled with the sums, each bit read before it is replaced.
-use mathlib.Core.Path.{sym, ap₂, ◌∙◌}
-use Prim.Native.Nat.{ℕ, ◌+◌, ◌-◌, ◌/◌, ◌%◌, ◌^◌, ◌<◌}
-use lib.ListN.{length}
-use borrow.Author.Rules.{rules}
+use Prim.Native.Nat.{◌-◌, ◌/◌, ◌^◌}
 use Rattle.lists.specs.Filling.{Filling}
-use Rattle.lists.specs.FillingLaws.{filling_none, filling_here, filling_more, filling_all}
 use Rattle.bits.specs.Digits.{digits}
 use Rattle.bits.specs.Sums.{added}
-use Rattle.bits.specs.SumLaws.{length_added, get_or_added}
-use Rattle.dispersal.specs.EightLaws.{digit_at_law}
 use Rattle.dispersal.proofs.run.add_tops.Given as goal
 
 abbrev pub invariant-loop-k : goal.invariant-loop-k

@@ -2,22 +2,19 @@
 -- is the one after the bits passed.
 use mathlib.Core.Path.{◌≡◌, sym, ap, ap₂, ◌∙◌}
 use mathlib.Core.List.{List}
-use Prim.Native.Nat.{ℕ, ◌+◌, ◌-◌, ◌*◌, ◌/◌, ◌%◌, ◌^◌, ◌≤◌, ◌<◌}
+use Prim.Native.Nat.{ℕ, ◌+◌, ◌-◌, ◌*◌, ◌/◌, ◌%◌, ◌^◌, ◌≤◌}
 use native.Mathlib.Omega.{arith}
 use lib.ListN.{length, take}
 use borrow.Author.Rules.{rules}
-use Rattle.lists.specs.Filling.{Filling}
 use Rattle.lists.specs.FillingLaws.{filling_none, filling_rest, filling_part, filling_all}
 use Rattle.lists.specs.PartLaws.{length_part}
 use Rattle.bits.specs.Digits.{digits}
 use Rattle.bits.specs.Sums.{added}
 use Rattle.dispersal.specs.Register.{after}
 use Rattle.dispersal.specs.RegisterLaws.{after_none, after_add, after_lt}
-use Rattle.dispersal.specs.Dispersal.{dispersed}
 use Rattle.dispersal.specs.DispersalLaws.{length_dispersed}
 use Rattle.dispersal.specs.Eights.{feedback}
 use Rattle.dispersal.specs.EightLaws.{after_fed, dispersed_eight}
-use Rattle.dispersal.proofs.run.disperse_eights.Invariants.{Inv}
 use Rattle.dispersal.proofs.run.disperse_eights.Goals as goal
 
 pub loop-at-init : goal.loop-at-init

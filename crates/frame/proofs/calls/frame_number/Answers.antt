@@ -1,9 +1,8 @@
 -- `frame::frame_number`: each way out rewrites with the tests on the way to it.
 use mathlib.Core.Path.{◌≡◌, refl, sym, ap, ◌∙◌}
 use mathlib.Core.Bool.{true}
-use borrow.Author.Rules.{rules}
 use native.Mathlib.Omega.{arith}
-use borrow.Author.Tests.{not-true, not-false, eq-eqb, ne_eqb}
+use borrow.Author.Tests.{eq-eqb, ne_eqb}
 use Rattle.lists.specs.ChoiceLaws.{then_zero}
 use Rattle.plan.specs.Plans.{plan_number}
 use Rattle.plan.specs.States.{open_number, opened}

@@ -1,6 +1,5 @@
 -- `frame::slot_octets`: the place's rate and kind are the definition's.
 use mathlib.Core.Path.{◌≡◌, refl, sym, ap, ◌∙◌}
-use borrow.Author.Rules.{rules}
 use Rattle.plan.specs.Rates.{rows_of}
 use Rattle.plan.proofs.RateLaws.{rate_rows}
 use Rattle.plan.proofs.PlanLaws.{accepted, group_values}

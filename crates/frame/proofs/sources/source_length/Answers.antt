@@ -1,8 +1,7 @@
 -- `frame::source_length`: the octets of the slots passed, none of which has more than a slot has.
 use mathlib.Core.Path.{◌≡◌, sym, ap, ◌∙◌}
-use Prim.Native.Nat.{◌+◌, ◌*◌, ◌-◌, ◌≤◌}
+use Prim.Native.Nat.{◌+◌, ◌-◌, ◌≤◌}
 use native.Mathlib.Omega.{arith}
-use borrow.Author.Rules.{rules}
 use Rattle.plan.specs.Sizes.{slot_octets}
 use Rattle.frame.specs.Frames.{source_from}
 use Rattle.frame.proofs.FrameLaws.{source_from_none, source_from_more, octets_few}

@@ -1,11 +1,8 @@
 -- `frame::source_length`: the octets of the slots passed, none of which has more than a slot has.
-use mathlib.Core.Path.{◌≡◌, sym, ap, ◌∙◌}
-use Prim.Native.Nat.{◌+◌, ◌*◌, ◌-◌, ◌≤◌}
-use native.Mathlib.Omega.{arith}
-use borrow.Author.Rules.{rules}
+use mathlib.Core.Path.{◌≡◌}
+use Prim.Native.Nat.{◌*◌, ◌-◌, ◌≤◌}
 use Rattle.plan.specs.Sizes.{slot_octets}
 use Rattle.frame.specs.Frames.{source_from}
-use Rattle.frame.proofs.FrameLaws.{source_from_none, source_from_more, octets_few}
 use Rattle.frame.proofs.sources.source_length.Given as goal
 
 abbrev pub invariant-loop-k : goal.invariant-loop-k

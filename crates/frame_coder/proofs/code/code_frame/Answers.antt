@@ -1,6 +1,5 @@
 -- `frame_coder::code_frame`: the number decides between the coded frame and the area as found.
 use mathlib.Core.Path.{◌≡◌, sym, ◌∙◌}
-use borrow.Author.Rules.{rules}
 use lib.ListN.{length}
 use Rattle.refusal.specs.AnswerLaws.{refused, accepted}
 use Rattle.frame.specs.Frames.{frame_number}

@@ -128,7 +128,7 @@ returns-then-place c =
     let t = w in
     let p = t in
     let q =
-      called p.requires (lies) (sym (kind-is) ∙ t.if-place.true) w.code_slot-answer.ensures.value w.code_slot-answer.ensures.coded_after in
+    called p.requires (lies) (sym (kind-is) ∙ t.if-place.true) w.code_slot-answer.ensures.value w.code_slot-answer.ensures.coded_after in
     record { value = q.0; coded_after = q.1 }
 
 pub returns : goal.returns

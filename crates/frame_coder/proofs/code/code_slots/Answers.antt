@@ -7,7 +7,6 @@ use borrow.Author.Rules.{rules}
 use borrow.Rule.Slice.PartMut.{put_mid}
 use lib.ListN.{length, take}
 use Rattle.lists.specs.Parts.{part}
-use Rattle.lists.specs.Filling.{Filling}
 use Rattle.lists.specs.FillingLaws.{filling_none, filling_rest, filling_part, filling_all}
 use Rattle.plan.specs.declared.Plan.{Plan}
 use Rattle.plan.specs.declared.FrameState.{FrameState}
@@ -16,7 +15,7 @@ use Rattle.plan.specs.Sizes.{slot_octets}
 use Rattle.plan.specs.States.{opened}
 use Rattle.plan.proofs.StateLaws.{open_sound}
 use Rattle.frame.specs.Steps.{coded_at, state_after}
-use Rattle.frame.specs.Frames.{state_before, slot_in, octets_of_slot, source_from, source_in, frame_of}
+use Rattle.frame.specs.Frames.{slot_in, octets_of_slot, source_from, source_in, frame_of}
 use Rattle.frame.proofs.FrameLaws.{source_from_none, source_from_more, source_from_mono, first_state, state_more, length_slot_in, length_frame_of, slot_at}
 use Rattle.frame.proofs.PlacedLaws.{placed_at}
 use Rattle.frame.specs.Needs.{Framed}

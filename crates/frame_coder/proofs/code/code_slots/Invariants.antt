@@ -1,26 +1,12 @@
 -- `frame_coder::code_slots`: the frame is filled slot by slot, with the state and the place in the source that belong to each.
-use mathlib.Core.Path.{◌≡◌, sym, ap, ◌∙◌}
+use mathlib.Core.Path.{◌≡◌}
 use mathlib.Core.List.{List}
-use Prim.Native.Nat.{ℕ, ◌+◌, ◌*◌, ◌-◌, ◌<◌, ◌≤◌}
-use native.Mathlib.Omega.{arith}
-use borrow.Author.Rules.{rules}
-use borrow.Rule.Slice.PartMut.{put_mid}
-use lib.ListN.{length, take}
-use Rattle.lists.specs.Parts.{part}
+use Prim.Native.Nat.{ℕ, ◌*◌, ◌-◌, ◌≤◌}
 use Rattle.lists.specs.Filling.{Filling}
-use Rattle.lists.specs.FillingLaws.{filling_none, filling_rest, filling_part, filling_all}
 use Rattle.plan.specs.declared.Plan.{Plan}
 use Rattle.plan.specs.declared.FrameState.{FrameState}
-use Rattle.plan.specs.declared.Answer.{Answer}
 use Rattle.plan.specs.Sizes.{slot_octets}
-use Rattle.plan.specs.States.{opened}
-use Rattle.plan.proofs.StateLaws.{open_sound}
-use Rattle.frame.specs.Steps.{coded_at, state_after}
-use Rattle.frame.specs.Frames.{state_before, slot_in, octets_of_slot, source_from, source_in, frame_of}
-use Rattle.frame.proofs.FrameLaws.{source_from_none, source_from_more, source_from_mono, first_state, state_more, length_slot_in, length_frame_of, slot_at}
-use Rattle.frame.proofs.PlacedLaws.{placed_at}
-use Rattle.frame.specs.Needs.{Framed}
-use Rattle.frame_coder.specs.Needs.{Coding}
+use Rattle.frame.specs.Frames.{state_before, source_from, frame_of}
 use Rattle.frame_coder.proofs.code.code_slots.Given as goal
 
 -- the first k slots are coded

@@ -1,6 +1,5 @@
 -- `frame_reader::read::read_frame`: refused with the call's number, or every slot is read.
 use mathlib.Core.Path.{◌≡◌, sym, ◌∙◌}
-use borrow.Author.Rules.{rules}
 use borrow.Author.Tests.{ne_eqb}
 use lib.ListN.{length}
 use Rattle.frame.specs.Frames.{read_frame_number}

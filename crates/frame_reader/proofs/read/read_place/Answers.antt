@@ -109,9 +109,12 @@ returns-then-place c =
     let k = sym (kind) ∙ t.if-place.true in
     let z = slot_taken a.state a.tables.now a.ends.now a.source.now s.requires.placed a.received.now s.requires.received_long k in
     let e = r.read_slot.ensures.value ∙ ap (λ (u : List ℕ). read_answer a.state u a.received.now a.source.now) i in
-    let w = read_answer_law a.state a.tables.now a.source.now a.received.now z k in record { number_value = (ap (λ q. q.number) e ∙ w.0, ap (λ q. q.state) e ∙ w.1, ap (λ q. q.stuff) e ∙ w.2, ap (λ q. q.position) e ∙ w.3); source_after = r.read_slot.ensures.source_after
+    let w = read_answer_law a.state a.tables.now a.source.now a.received.now z k in record {
+      number_value = (ap (λ q. q.number) e ∙ w.0, ap (λ q. q.state) e ∙ w.1, ap (λ q. q.stuff) e ∙ w.2, ap (λ q. q.position) e ∙ w.3);
+      source_after = r.read_slot.ensures.source_after
           ∙ ap (λ (u : List ℕ). read_area a.state u a.received.now a.source.now) i
-          ∙ read_area_law a.state a.tables.now a.source.now a.received.now z k }
+          ∙ read_area_law a.state a.tables.now a.source.now a.received.now z k;
+    }
 
 pub returns : goal.returns
 unfolding place_of
@@ -122,9 +125,12 @@ returns c =
     let n = p in
     let s = n in
     let a = s.args in
-    let k = sym (kind) ∙ p.if-place.false in record { number_value = (
+    let k = sym (kind) ∙ p.if-place.false in record {
+      number_value = (
         ap (λ q. q.number) d ∙ sym (answer_dummy a.state a.tables.now k a.received.now),
         ap (λ q. q.state) d ∙ ap (λ q. q.state) p.pass-passed.ensures ∙ (pass_answer a.state a.tables.now s.requires.placed.ready k).1,
         ap (λ q. q.stuff) d ∙ sym (stuff_dummy a.state a.tables.now k a.received.now),
         ap (λ q. q.position) d ∙ sym (position_dummy a.state a.tables.now k a.received.now),
-      ); source_after = sym (read_dummy a.state a.tables.now k a.received.now a.source.now) }
+      );
+      source_after = sym (read_dummy a.state a.tables.now k a.received.now a.source.now);
+    }

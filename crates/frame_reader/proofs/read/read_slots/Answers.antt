@@ -7,7 +7,6 @@ use borrow.Author.Rules.{rules}
 use borrow.Rule.Slice.PartMut.{put_mid}
 use lib.ListN.{length, take, set}
 use Rattle.lists.specs.Parts.{part}
-use Rattle.lists.specs.Filling.{Filling}
 use Rattle.lists.specs.FillingLaws.{filling_none, filling_rest, filling_more, filling_part, filling_all}
 use Rattle.plan.specs.declared.Plan.{Plan}
 use Rattle.plan.specs.declared.FrameState.{FrameState}
@@ -15,7 +14,7 @@ use Rattle.plan.specs.Sizes.{slot_octets}
 use Rattle.plan.specs.States.{opened}
 use Rattle.plan.proofs.StateLaws.{open_sound}
 use Rattle.frame.specs.Steps.{answer_at, stuff_at, position_at, read_at, state_after}
-use Rattle.frame.specs.Frames.{state_before, slot_in, octets_of_slot, source_from, source_in, answers_of, stuffs_of, positions_of, sources_of}
+use Rattle.frame.specs.Frames.{slot_in, octets_of_slot, source_from, source_in, sources_of}
 use Rattle.frame.proofs.FrameLaws.{source_from_none, source_from_more, source_from_mono, first_state, state_more, length_slot_in, length_sources_of, length_answers_of, answer_at_law, length_stuffs_of, stuff_at_law, length_positions_of, position_at_law, source_at}
 use Rattle.frame.proofs.PlacedLaws.{placed_at}
 use Rattle.frame_reader.specs.Needs.{Reading, Answering}

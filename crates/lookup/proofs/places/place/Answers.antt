@@ -1,6 +1,5 @@
 -- `lookup::place`: the number decides between the slot's place and none.
 use mathlib.Core.Path.{sym, ap, ◌∙◌}
-use borrow.Author.Rules.{rules}
 use borrow.Author.Tests.{eq-eqb, ne_eqb}
 use Rattle.lookup.specs.Lookups.{placed}
 use Rattle.lookup.proofs.LookupLaws.{slot_there}

@@ -1,5 +1,4 @@
 -- `lookup::place_number`: each way out rewrites with the tests on the way to it.
-use borrow.Author.Rules.{rules}
 use borrow.Author.Tests.{le-leb, lt-leb, eq-eqb, ne_eqb}
 use Rattle.lookup.specs.Lookups.{place_number}
 use Rattle.lookup.proofs.places.place_number.Goals as goal

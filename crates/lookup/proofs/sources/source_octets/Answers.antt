@@ -1,5 +1,4 @@
 -- `lookup::source_octets`: the plan's number decides.
-use borrow.Author.Rules.{rules}
 use borrow.Author.Tests.{eq-eqb, ne_eqb}
 use Rattle.lookup.specs.Lookups.{source_octets}
 use Rattle.lookup.proofs.sources.source_octets.Goals as goal

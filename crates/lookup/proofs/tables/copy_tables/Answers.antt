@@ -1,7 +1,6 @@
 -- `lookup::copy_tables`: the plan's number, then the length, then the tables.
 use mathlib.Core.Path.{◌≡◌, sym, ◌∙◌}
 use native.Mathlib.Omega.{arith}
-use borrow.Author.Rules.{rules}
 use borrow.Author.Tests.{eq-eqb, ne_eqb}
 use lib.ListN.{length}
 use Rattle.lists.specs.ChoiceLaws.{then_first, then_next}

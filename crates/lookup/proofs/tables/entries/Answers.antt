@@ -1,12 +1,10 @@
 -- `lookup::entries`: the numbers of the tables passed, none of which has more than 510.
 use mathlib.Core.Path.{◌≡◌, sym, ap, ◌∙◌}
-use Prim.Native.Nat.{ℕ, ◌*◌, ◌-◌, ◌≤◌}
+use Prim.Native.Nat.{◌-◌}
 use native.Mathlib.Omega.{arith}
 use borrow.Author.Rules.{rules}
-use Rattle.plan.specs.declared.Plan.{Plan}
 use Rattle.plan.proofs.PlanLaws.{accepted}
 use Rattle.lookup.proofs.LookupLaws.{table_start, start_none, start_more, start_all}
-use Rattle.lookup.proofs.tables.entries.Invariants.{Inv}
 use Rattle.lookup.proofs.tables.entries.Goals as goal
 
 pub loop-g-init : goal.loop-g-init

@@ -1,11 +1,8 @@
 -- `lookup::entries`: the numbers of the tables passed, none of which has more than 510.
-use mathlib.Core.Path.{◌≡◌, sym, ap, ◌∙◌}
+use mathlib.Core.Path.{◌≡◌}
 use Prim.Native.Nat.{ℕ, ◌*◌, ◌-◌, ◌≤◌}
-use native.Mathlib.Omega.{arith}
-use borrow.Author.Rules.{rules}
 use Rattle.plan.specs.declared.Plan.{Plan}
-use Rattle.plan.proofs.PlanLaws.{accepted}
-use Rattle.lookup.proofs.LookupLaws.{table_start, start_none, start_more, start_all}
+use Rattle.lookup.proofs.LookupLaws.{table_start}
 use Rattle.lookup.proofs.tables.entries.Given as goal
 
 pub record Inv (p : Plan) (count sum g : ℕ) : Type 0 where

@@ -1,16 +1,11 @@
 -- `lookup::put_tables`: the area is filled with the groups' tables, one at a time.
 use mathlib.Core.Path.{◌≡◌, sym, ap, ◌∙◌}
-use mathlib.Core.List.{List}
 use Prim.Native.Nat.{ℕ, ◌+◌, ◌-◌, ◌≤◌}
 use native.Mathlib.Omega.{arith}
 use borrow.Author.Rules.{rules}
-use Rattle.lists.specs.Filling.{Filling}
 use Rattle.lists.specs.FillingLaws.{filling_none, filling_all}
-use Rattle.plan.specs.declared.Plan.{Plan}
 use Rattle.plan.proofs.PlanLaws.{accepted}
-use Rattle.lookup.specs.Lookups.{tables_of}
 use Rattle.lookup.proofs.LookupLaws.{table_start, start_none, start_more, start_all, start_within, table_put}
-use Rattle.lookup.proofs.tables.put_tables.Invariants.{Inv}
 use Rattle.lookup.proofs.tables.put_tables.Goals.{After-table_length}
 use Rattle.lookup.proofs.tables.put_tables.Goals as goal
 

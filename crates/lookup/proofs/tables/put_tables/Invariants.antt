@@ -1,15 +1,11 @@
 -- `lookup::put_tables`: the area is filled with the groups' tables, one at a time.
-use mathlib.Core.Path.{◌≡◌, sym, ap, ◌∙◌}
+use mathlib.Core.Path.{◌≡◌}
 use mathlib.Core.List.{List}
-use Prim.Native.Nat.{ℕ, ◌+◌, ◌-◌, ◌≤◌}
-use native.Mathlib.Omega.{arith}
-use borrow.Author.Rules.{rules}
+use Prim.Native.Nat.{ℕ, ◌-◌, ◌≤◌}
 use Rattle.lists.specs.Filling.{Filling}
-use Rattle.lists.specs.FillingLaws.{filling_none, filling_all}
 use Rattle.plan.specs.declared.Plan.{Plan}
-use Rattle.plan.proofs.PlanLaws.{accepted}
 use Rattle.lookup.specs.Lookups.{tables_of}
-use Rattle.lookup.proofs.LookupLaws.{table_start, start_none, start_more, start_all, start_within, table_put}
+use Rattle.lookup.proofs.LookupLaws.{table_start}
 use Rattle.lookup.proofs.tables.put_tables.Given as goal
 
 pub record Inv (p : Plan) (count : ℕ) (found tables : List ℕ) (at g : ℕ) : Type 0 where

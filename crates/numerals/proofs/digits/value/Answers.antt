@@ -1,14 +1,13 @@
 -- `numerals::value`: what the digits passed make, in at most 40 bits.
 use mathlib.Core.Path.{◌≡◌, sym, ap, ap₂, ◌∙◌}
 use mathlib.Core.List.{List}
-use Prim.Native.Nat.{ℕ, ◌+◌, ◌-◌, ◌*◌, ◌≤◌, ◌<◌}
+use Prim.Native.Nat.{ℕ, ◌+◌, ◌*◌, ◌<◌}
 use native.Mathlib.Omega.{arith}
 use borrow.Author.Rules.{rules}
 use lib.ListN.{get_or}
 use Rattle.numerals.specs.Needs.{Digits}
 use Rattle.numerals.specs.Numerals.{digit_of, value_of}
 use Rattle.numerals.specs.NumeralLaws.{value_none, value_more, value_small}
-use Rattle.numerals.proofs.digits.value.Invariants.{Inv}
 use Rattle.numerals.proofs.digits.value.Goals as goal
 
 -- the number with one digit more is small too

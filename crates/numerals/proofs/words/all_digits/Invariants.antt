@@ -1,14 +1,10 @@
 -- `numerals::all_digits`: the octets passed are digits.
-use mathlib.Core.Path.{◌≡◌, sym, ap, ◌∙◌}
+use mathlib.Core.Path.{◌≡◌}
 use mathlib.Core.Bool.{true}
 use mathlib.Core.List.{List}
 use Prim.Native.Nat.{ℕ, ◌-◌, ◌≤◌}
-use native.Mathlib.Omega.{arith}
-use borrow.Author.Rules.{rules}
-use borrow.Author.Tests.{lt-ltb, le-ltb}
 use lib.ListN.{length}
 use Rattle.lists.specs.Count.{every}
-use Rattle.lists.specs.CountLaws.{every_none, every_next, every_not}
 use Rattle.numerals.specs.Words.{digit_at}
 use Rattle.numerals.proofs.words.all_digits.Given as goal
 

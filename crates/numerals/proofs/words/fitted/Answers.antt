@@ -1,7 +1,6 @@
 -- `numerals::fitted`: the test of 32 bits.
 use mathlib.Core.Path.{◌∙◌}
 use native.Mathlib.Omega.{arith}
-use borrow.Author.Rules.{rules}
 use borrow.Author.Tests.{le-leb, lt-leb}
 use Rattle.numerals.specs.Words.{said}
 use Rattle.numerals.proofs.words.fitted.Goals as goal

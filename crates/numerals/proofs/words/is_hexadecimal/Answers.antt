@@ -1,6 +1,5 @@
 -- `numerals::is_hexadecimal`: the length and the two octets, one after the other.
 use native.Mathlib.Omega.{arith}
-use borrow.Author.Rules.{rules}
 use borrow.Author.Tests.{eq-eqb, ne_eqb, le-leb, lt-leb}
 use lib.ListN.{length}
 use Rattle.numerals.specs.Words.{hexadecimal}

@@ -1,7 +1,6 @@
 -- `packets::pack`: the number decides between the data octets and the area as found.
 use mathlib.Core.Path.{sym, ap, ◌∙◌}
 use Prim.Native.Nat.{ℕ, ◌*◌}
-use borrow.Author.Rules.{rules}
 use Rattle.refusal.specs.AnswerLaws.{refused, accepted}
 use Rattle.packets.specs.Packets.{packed}
 use Rattle.packets.specs.PacketLaws.{pack_ready}

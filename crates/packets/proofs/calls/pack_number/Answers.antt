@@ -1,7 +1,6 @@
 -- `packets::pack_number`: each way out rewrites with the tests on the way to it; the packets are read only where their length is right.
 use mathlib.Core.Path.{◌≡◌, sym, ap, ◌∙◌}
 use Prim.Native.Nat.{ℕ, ◌*◌}
-use borrow.Author.Rules.{rules}
 use borrow.Author.Tests.{ne_eqb}
 use Rattle.lists.specs.Count.{every}
 use Rattle.plan.specs.Rates.{packets_of}

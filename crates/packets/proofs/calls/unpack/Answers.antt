@@ -1,7 +1,6 @@
 -- `packets::unpack`: the number decides between the packets and the area as found.
 use mathlib.Core.Path.{sym, ap, ◌∙◌}
 use Prim.Native.Nat.{ℕ, ◌*◌}
-use borrow.Author.Rules.{rules}
 use Rattle.refusal.specs.AnswerLaws.{refused, accepted}
 use Rattle.packets.specs.Packets.{unpacked, unpack_number}
 use Rattle.packets.specs.PacketLaws.{sized}

@@ -1,15 +1,11 @@
 -- `packets::leave_out`: the area is filled with the packets' other octets, one packet at a time.
-use mathlib.Core.Path.{◌≡◌, refl, sym, ◌∙◌}
-use mathlib.Core.List.{List}
-use Prim.Native.Nat.{ℕ, ◌+◌, ◌*◌, ◌-◌, ◌≤◌}
+use mathlib.Core.Path.{refl, sym, ◌∙◌}
+use Prim.Native.Nat.{◌+◌, ◌-◌}
 use native.Mathlib.Omega.{arith}
 use borrow.Author.Rules.{rules}
-use Rattle.lists.specs.Filling.{Filling}
 use Rattle.lists.specs.FillingLaws.{filling_none, filling_part, filling_all}
-use Rattle.packets.specs.Packets.{packed}
 use Rattle.packets.specs.PacketLaws.{length_packed}
 use Rattle.packets.proofs.Turns.{leave_turn}
-use Rattle.packets.proofs.carry.leave_out.Invariants.{Inv}
 use Rattle.packets.proofs.carry.leave_out.Goals as goal
 
 pub loop-i-init : goal.loop-i-init

@@ -1,14 +1,9 @@
 -- `packets::leave_out`: the area is filled with the packets' other octets, one packet at a time.
-use mathlib.Core.Path.{◌≡◌, refl, sym, ◌∙◌}
+use mathlib.Core.Path.{◌≡◌}
 use mathlib.Core.List.{List}
-use Prim.Native.Nat.{ℕ, ◌+◌, ◌*◌, ◌-◌, ◌≤◌}
-use native.Mathlib.Omega.{arith}
-use borrow.Author.Rules.{rules}
+use Prim.Native.Nat.{ℕ, ◌*◌, ◌-◌, ◌≤◌}
 use Rattle.lists.specs.Filling.{Filling}
-use Rattle.lists.specs.FillingLaws.{filling_none, filling_part, filling_all}
 use Rattle.packets.specs.Packets.{packed}
-use Rattle.packets.specs.PacketLaws.{length_packed}
-use Rattle.packets.proofs.Turns.{leave_turn}
 use Rattle.packets.proofs.carry.leave_out.Given as goal
 
 pub record Inv (count : ℕ) (packets found octets : List ℕ) (i from at : ℕ) : Type 0 where

@@ -1,15 +1,9 @@
 -- `packets::put_back`: the area is filled with the packets, each by its first octet and then the others.
-use mathlib.Core.Path.{◌≡◌, refl, sym, ap, ◌∙◌}
+use mathlib.Core.Path.{◌≡◌}
 use mathlib.Core.List.{List}
-use Prim.Native.Nat.{ℕ, ◌+◌, ◌*◌, ◌-◌, ◌≤◌}
-use native.Mathlib.Omega.{arith}
-use lib.ListN.{get_or, length-set}
-use borrow.Author.Rules.{rules}
+use Prim.Native.Nat.{ℕ, ◌*◌, ◌-◌, ◌≤◌}
 use Rattle.lists.specs.Filling.{Filling}
-use Rattle.lists.specs.FillingLaws.{filling_none, filling_more, filling_part, filling_all}
 use Rattle.packets.specs.Packets.{unpacked}
-use Rattle.packets.specs.PacketLaws.{length_unpacked, unpacked_first}
-use Rattle.packets.proofs.Turns.{back_turn}
 use Rattle.packets.proofs.carry.put_back.Given as goal
 
 pub record Inv (count : ℕ) (octets found packets : List ℕ) (i from at : ℕ) : Type 0 where

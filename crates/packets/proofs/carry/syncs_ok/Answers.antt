@@ -1,8 +1,7 @@
 -- `packets::syncs_ok`: the packets passed begin with the sync octet.
 use mathlib.Core.Path.{◌≡◌, refl, sym, ap, ◌∙◌}
 use mathlib.Core.Bool.{true}
-use mathlib.Core.List.{List}
-use Prim.Native.Nat.{ℕ, ◌*◌, ◌-◌, ◌≤◌}
+use Prim.Native.Nat.{ℕ, ◌-◌}
 use native.Mathlib.Omega.{arith}
 use lib.ListN.{get_or}
 use borrow.Author.Rules.{rules}
@@ -10,7 +9,6 @@ use borrow.Author.Tests.{eq-eqb, ne_eqb}
 use Rattle.lists.specs.Count.{every}
 use Rattle.lists.specs.CountLaws.{every_none, every_next, every_not}
 use Rattle.packets.specs.Packets.{sync_octet, begins_sync}
-use Rattle.packets.proofs.carry.syncs_ok.Invariants.{Inv}
 use Rattle.packets.proofs.carry.syncs_ok.Goals as goal
 
 pub loop-i-init : goal.loop-i-init

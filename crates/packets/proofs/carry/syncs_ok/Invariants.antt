@@ -1,15 +1,10 @@
 -- `packets::syncs_ok`: the packets passed begin with the sync octet.
-use mathlib.Core.Path.{◌≡◌, refl, sym, ap, ◌∙◌}
+use mathlib.Core.Path.{◌≡◌}
 use mathlib.Core.Bool.{true}
 use mathlib.Core.List.{List}
 use Prim.Native.Nat.{ℕ, ◌*◌, ◌-◌, ◌≤◌}
-use native.Mathlib.Omega.{arith}
-use lib.ListN.{get_or}
-use borrow.Author.Rules.{rules}
-use borrow.Author.Tests.{eq-eqb, ne_eqb}
 use Rattle.lists.specs.Count.{every}
-use Rattle.lists.specs.CountLaws.{every_none, every_next, every_not}
-use Rattle.packets.specs.Packets.{sync_octet, begins_sync}
+use Rattle.packets.specs.Packets.{begins_sync}
 use Rattle.packets.proofs.carry.syncs_ok.Given as goal
 
 pub record Inv (count : ℕ) (packets : List ℕ) (i at : ℕ) : Type 0 where

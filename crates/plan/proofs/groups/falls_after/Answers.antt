@@ -1,6 +1,5 @@
 -- `plan::falls_after`: each way out rewrites with the tests on the way to it.
 use Prim.Native.Nat.{◌+◌, ◌<◌}
-use borrow.Author.Rules.{rules}
 use borrow.Author.Tests.{le-ltb, lt-ltb, eq-eqb, ne_eqb}
 use Rattle.plan.specs.Plans.{modulation_of, falls_after}
 use Rattle.plan.proofs.groups.falls_after.Goals as goal

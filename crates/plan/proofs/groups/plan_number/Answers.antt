@@ -1,7 +1,6 @@
 -- `plan::plan_number`: both ways out rewrite with the tests on the way to them.
 use mathlib.Core.Path.{sym, ◌∙◌}
 use Prim.Native.Nat.{◌≤◌}
-use borrow.Author.Rules.{rules}
 use Rattle.plan.specs.Plans.{groups_ok, plan_number}
 use Rattle.plan.proofs.RateLaws.{between}
 use Rattle.plan.proofs.groups.plan_number.Goals.{Then-known}

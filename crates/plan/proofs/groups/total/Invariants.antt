@@ -1,10 +1,7 @@
 -- `plan::total`: the slots of the groups passed.
-use mathlib.Core.Path.{◌≡◌, sym, ap, ◌∙◌}
+use mathlib.Core.Path.{◌≡◌}
 use Prim.Native.Nat.{◌*◌, ◌-◌, ◌≤◌}
-use native.Mathlib.Omega.{arith}
-use borrow.Author.Rules.{rules}
 use Rattle.plan.specs.Plans.{slots_before}
-use Rattle.plan.proofs.PlanLaws.{before_none, before_more}
 use Rattle.plan.proofs.groups.total.Given as goal
 
 abbrev pub invariant-loop-g : goal.invariant-loop-g

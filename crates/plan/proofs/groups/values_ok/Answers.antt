@@ -1,6 +1,5 @@
 -- `plan::values_ok`: each way out rewrites with the tests on the way to it.
 use mathlib.Core.Path.{◌≡◌, sym, ◌∙◌}
-use borrow.Author.Rules.{rules}
 use borrow.Author.Tests.{le-leb, lt-leb}
 use Rattle.plan.specs.Plans.{rate_of, values_ok}
 use Rattle.plan.specs.Rates.{rate_ok}

@@ -1,14 +1,8 @@
 -- `plan::place_of`: the groups passed end before the slot, so the group at which the loop stops is the first that reaches it.
-use mathlib.Core.Path.{◌≡◌, sym, ap}
+use mathlib.Core.Path.{◌≡◌}
 use Prim.Native.Nat.{ℕ, ◌+◌, ◌-◌, ◌≤◌, ◌<◌}
-use native.Mathlib.Decide.{dec_lt}
-use native.Mathlib.Omega.{arith}
-use borrow.Author.Rules.{rules}
 use Rattle.plan.specs.declared.Plan.{Plan}
 use Rattle.plan.specs.Plans.{slots_before}
-use Rattle.plan.proofs.PlanLaws.{Accepted, accepted, before_none, before_more, before_mono}
-use Rattle.plan.specs.Places.{group_at, carries, place_of}
-use Rattle.plan.proofs.PlaceLaws.{group_is}
 use Rattle.plan.proofs.places.place_of.Given as goal
 
 pub record Inv (plan : Plan) (slot g passed end : ℕ) : Type 0 where

@@ -2,7 +2,6 @@
 use mathlib.Core.Path.{ap}
 use Prim.Native.Nat.{ℕ, ◌*◌, ◌-◌, ◌/◌}
 use native.Mathlib.Omega.{arith}
-use borrow.Author.Rules.{rules}
 use Rattle.plan.specs.Rates.{data_bits_of, data_octets_of}
 use Rattle.plan.proofs.RateLaws.{rows_most}
 use Rattle.plan.proofs.rates.data_octets.Goals as goal

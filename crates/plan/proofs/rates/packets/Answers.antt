@@ -1,7 +1,6 @@
 -- `plan::packets`: as the definition.
 use mathlib.Core.Path.{ap}
 use Prim.Native.Nat.{ℕ, ◌/◌}
-use borrow.Author.Rules.{rules}
 use Rattle.plan.specs.Rates.{packets_of}
 use Rattle.plan.proofs.rates.packets.Goals as goal
 

@@ -1,5 +1,4 @@
 -- `plan::advanced`: the state's own plan and settings, one slot on.
-use borrow.Author.Rules.{rules}
 use Rattle.plan.proofs.state.advanced.Goals as goal
 
 pub returns : goal.returns

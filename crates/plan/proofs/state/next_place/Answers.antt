@@ -1,7 +1,6 @@
 -- `plan::next_place`: the plan and the slot of a state that is ready are a slot of an accepted plan.
 use mathlib.Core.Path.{ap, ap₂, ◌∙◌}
 use native.Mathlib.Omega.{arith}
-use borrow.Author.Rules.{rules}
 use Rattle.plan.specs.Plans.{plan_number}
 use Rattle.plan.specs.Places.{place_of}
 use Rattle.plan.proofs.StateLaws.{ready}

@@ -1,5 +1,4 @@
 -- `plan::open`: the number decides between the two states.
-use borrow.Author.Rules.{rules}
 use borrow.Author.Tests.{eq-eqb, ne_eqb}
 use Rattle.plan.specs.States.{opened}
 use Rattle.plan.proofs.state.open.Goals as goal

@@ -1,6 +1,5 @@
 -- `plan::open_number`: each way out rewrites with the tests on the way to it.
 use mathlib.Core.Path.{sym, ◌∙◌}
-use borrow.Author.Rules.{rules}
 use borrow.Author.Tests.{ne_eqb}
 use Rattle.plan.specs.States.{open_number}
 use Rattle.plan.proofs.state.open_number.Goals as goal

@@ -1,6 +1,5 @@
 -- `plan::pass`: the number decides between the two states.
 use mathlib.Core.Path.{sym, ◌∙◌}
-use borrow.Author.Rules.{rules}
 use borrow.Author.Tests.{eq-eqb, ne_eqb}
 use Rattle.plan.specs.States.{passed}
 use Rattle.plan.proofs.StateLaws.{pass_ready}

@@ -1,6 +1,5 @@
 -- `plan::pass_number`: each way out rewrites with the tests on the way to it; the place is asked only of a state that is ready.
 use mathlib.Core.Path.{◌≡◌, sym, ap, ◌∙◌}
-use borrow.Author.Rules.{rules}
 use borrow.Author.Tests.{ne_eqb}
 use Rattle.plan.specs.Records.{plan_in}
 use Rattle.plan.specs.Places.{carries, place_of}

@@ -1,6 +1,5 @@
 -- `plan::sound_number`: each way out rewrites with the tests on the way to it.
 use mathlib.Core.Path.{◌≡◌, sym, ap, ◌∙◌}
-use borrow.Author.Rules.{rules}
 use borrow.Author.Tests.{eq-eqb, ne_eqb}
 use Rattle.plan.specs.Records.{plan_in}
 use Rattle.plan.specs.Plans.{plan_number}

@@ -1,5 +1,4 @@
 -- `plan::state_number`: each way out rewrites with the tests on the way to it.
-use borrow.Author.Rules.{rules}
 use borrow.Author.Tests.{le-leb, lt-leb, ne_eqb}
 use Rattle.plan.specs.States.{state_number}
 use Rattle.plan.proofs.state.state_number.Goals as goal

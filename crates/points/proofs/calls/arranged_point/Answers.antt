@@ -1,5 +1,4 @@
 -- `points::arranged_point`: the point of the symbol, turned.
-use borrow.Author.Rules.{rules}
 use Rattle.points.proofs.AnswerLaws.{turned}
 use Rattle.points.proofs.calls.arranged_point.Goals as goal
 

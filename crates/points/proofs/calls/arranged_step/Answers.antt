@@ -2,7 +2,6 @@
 use mathlib.Core.Path.{◌∙◌, ap, sym}
 use Prim.Native.Nat.{ℕ}
 use native.Mathlib.Omega.{arith}
-use borrow.Author.Rules.{rules}
 use Rattle.lists.specs.ChoiceLaws.{and_right}
 use Rattle.dispersal.specs.Register.{mask_ok}
 use Rattle.dispersal.specs.RegisterLaws.{register_is}

@@ -1,6 +1,5 @@
 -- `points::point_values`: number and values of the answer are those that it has.
 use mathlib.Core.Path.{◌∙◌}
-use borrow.Author.Rules.{rules}
 use Rattle.points.proofs.AnswerLaws.{values_answered}
 use Rattle.points.proofs.calls.point_values.Goals as goal
 

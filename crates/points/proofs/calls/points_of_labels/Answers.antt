@@ -1,6 +1,5 @@
 -- `points::points_of_labels`: the number, and where it is 0 both areas filled.
 use mathlib.Core.Path.{◌∙◌, sym}
-use borrow.Author.Rules.{rules}
 use Rattle.refusal.specs.AnswerLaws.{refused, accepted}
 use Rattle.points.proofs.NumberLaws.{areas}
 use Rattle.points.proofs.calls.points_of_labels.Goals as goal

@@ -1,6 +1,5 @@
 -- `points::turned`: a point turns where the register's top bit is 1, a refusal stays.
 use mathlib.Core.Path.{◌∙◌, ap, sym}
-use borrow.Author.Rules.{rules}
 use borrow.Author.Tests.{eq-eqb, ne_eqb}
 use Rattle.dispersal.specs.Register.{top}
 use Rattle.points.specs.declared.PointAnswer.TheVariants.{At}

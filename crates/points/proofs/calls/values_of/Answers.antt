@@ -1,6 +1,5 @@
 -- `points::values_of`: each case has the values of the definition.
 use mathlib.Core.Path.{ap, sym}
-use borrow.Author.Rules.{rules}
 use Rattle.points.specs.Answers.{as_values}
 use Rattle.points.proofs.calls.values_of.Goals as goal
 

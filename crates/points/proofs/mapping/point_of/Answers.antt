@@ -1,5 +1,4 @@
 -- `points::point_of`: the lent point, shifted.
-use borrow.Author.Rules.{rules}
 use Rattle.points.specs.Points.{point_of}
 use Rattle.points.proofs.mapping.point_of.Goals as goal
 

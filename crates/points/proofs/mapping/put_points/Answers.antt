@@ -1,17 +1,14 @@
 -- `points::put_points`: both areas are filled from the front, and the symbol number goes on beside the label.
 use mathlib.Core.Path.{◌≡◌, ◌∙◌, ap, sym}
-use mathlib.Core.List.{List}
 use Prim.Native.Nat.{ℕ, ◌+◌, ◌-◌}
 use native.Mathlib.Omega.{arith}
-use borrow.Author.Rules.{rules, scaled_Fits}
-use lib.Ieee.{Float, nan}
+use borrow.Author.Rules.{scaled_Fits}
+use lib.Ieee.{nan}
 use lib.ListN.{length, get_or}
-use Rattle.lists.specs.Filling.{Filling}
 use Rattle.lists.specs.FillingLaws.{filling_none, filling_set, filling_all}
 use Rattle.points.specs.declared.Point.{Point}
-use Rattle.points.specs.Points.{point_of, in_phase_of, quadrature_of}
+use Rattle.points.specs.Points.{point_of}
 use Rattle.points.proofs.PointLaws.{length_in_phase, length_quadrature, in_phase_at, quadrature_at}
-use Rattle.points.proofs.mapping.put_points.Invariants.{Putting}
 use Rattle.points.proofs.mapping.put_points.Goals as goal
 
 pub loop-r-init : goal.loop-r-init

@@ -1,18 +1,11 @@
 -- `points::put_points`: both areas are filled from the front, and the symbol number goes on beside the label.
-use mathlib.Core.Path.{◌≡◌, ◌∙◌, ap, sym}
+use mathlib.Core.Path.{◌≡◌}
 use mathlib.Core.List.{List}
 use Prim.Native.Nat.{ℕ, ◌+◌, ◌-◌}
-use native.Mathlib.Omega.{arith}
-use borrow.Author.Rules.{rules, scaled_Fits}
-use lib.Ieee.{Float, nan}
-use lib.ListN.{length, get_or}
+use lib.Ieee.{Float}
+use lib.ListN.{length}
 use Rattle.lists.specs.Filling.{Filling}
-use Rattle.lists.specs.FillingLaws.{filling_none, filling_set, filling_all}
-use Rattle.points.specs.declared.Point.{Point}
-use Rattle.points.specs.Points.{point_of, in_phase_of, quadrature_of}
-use Rattle.points.proofs.PointLaws.{length_in_phase, length_quadrature, in_phase_at, quadrature_at}
-use Rattle.points.proofs.mapping.put_points.Reads as reads
-use Rattle.points.proofs.mapping.put_points.Lts as lts
+use Rattle.points.specs.Points.{in_phase_of, quadrature_of}
 use Rattle.points.proofs.mapping.put_points.Given as goal
 
 pub record Putting (is qs i₀ q₀ i q : List Float) (symbol at r : ℕ) : Type 0 where

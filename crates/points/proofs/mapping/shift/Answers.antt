@@ -1,6 +1,5 @@
 -- `points::shift`: the two tests decide.
 use mathlib.Core.Path.{◌∙◌}
-use borrow.Author.Rules.{rules}
 use borrow.Author.Tests.{eq-eqb, ne_eqb}
 use Rattle.points.specs.Points.{shifted}
 use Rattle.points.proofs.mapping.shift.Goals as goal

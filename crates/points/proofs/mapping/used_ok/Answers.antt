@@ -1,6 +1,5 @@
 -- `points::used_ok`: one entry, then the other.
 use mathlib.Core.Path.{◌∙◌, sym}
-use borrow.Author.Rules.{rules}
 use Rattle.points.specs.Points.{used_ok}
 use Rattle.points.proofs.mapping.used_ok.Goals as goal
 

@@ -1,6 +1,5 @@
 -- `points::lent_number`: each way out rewrites with the tests on the way to it.
 use mathlib.Core.Path.{◌∙◌, sym}
-use borrow.Author.Rules.{rules}
 use borrow.Author.Tests.{leb-true}
 use lib.Dec.{leb}
 use Rattle.lists.specs.ChoiceLaws.{and_right}

@@ -1,7 +1,6 @@
 -- `points::lent_ok`: both lengths, then the symbol number.
 use mathlib.Core.Path.{◌≡◌, ◌∙◌, sym}
 use Prim.Native.Nat.{◌*◌, ◌%◌, ◌^◌}
-use borrow.Author.Rules.{rules}
 use borrow.Author.Tests.{eq-eqb, ne_eqb}
 use Rattle.symbols.specs.LabelLaws.{one_shifted}
 use Rattle.points.specs.Numbers.{lent_ok}

@@ -1,17 +1,15 @@
 -- `points::used_number`: the labels passed use finite entries alone.
 use mathlib.Core.Path.{◌≡◌, sym, ap, ◌∙◌}
-use mathlib.Core.Bool.{Bool, true}
-use mathlib.Core.List.{List}
-use Prim.Native.Nat.{ℕ, ◌-◌, ◌≤◌}
+use mathlib.Core.Bool.{true}
+use Prim.Native.Nat.{ℕ, ◌-◌}
 use native.Mathlib.Omega.{arith}
 use borrow.Author.Rules.{rules}
-use lib.Ieee.{Float}
-use lib.ListN.{length, get_or}
+use lib.ListN.{length}
 use Rattle.lists.specs.Count.{every}
 use Rattle.lists.specs.CountLaws.{every_none, every_next, every_not}
 use Rattle.points.specs.Points.{used_ok}
 use Rattle.points.specs.Numbers.{used_number}
-use Rattle.points.proofs.numbers.used_number.Invariants.{Passed, finite_at}
+use Rattle.points.proofs.numbers.used_number.Invariants.{finite_at}
 use Rattle.points.proofs.numbers.used_number.Goals as goal
 
 pub loop-r-init : goal.loop-r-init

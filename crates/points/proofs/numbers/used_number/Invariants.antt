@@ -1,16 +1,12 @@
 -- `points::used_number`: the labels passed use finite entries alone.
-use mathlib.Core.Path.{◌≡◌, sym, ap, ◌∙◌}
+use mathlib.Core.Path.{◌≡◌}
 use mathlib.Core.Bool.{Bool, true}
 use mathlib.Core.List.{List}
 use Prim.Native.Nat.{ℕ, ◌-◌, ◌≤◌}
-use native.Mathlib.Omega.{arith}
-use borrow.Author.Rules.{rules}
 use lib.Ieee.{Float}
 use lib.ListN.{length, get_or}
 use Rattle.lists.specs.Count.{every}
-use Rattle.lists.specs.CountLaws.{every_none, every_next, every_not}
 use Rattle.points.specs.Points.{used_ok}
-use Rattle.points.specs.Numbers.{used_number}
 use Rattle.points.proofs.numbers.used_number.Given as goal
 
 -- the test of label r

@@ -1,6 +1,5 @@
 -- `published::copy_table`: the constant is all tables end to end, by one computation.
 use mathlib.Core.Path.{refl}
-use borrow.Author.Rules.{rules}
 use Rattle.lists.specs.Count.{joined}
 use Rattle.published.specs.Printed.{rate1, rate2, rate3, rate4, rate5, rate6, rate7, rate8, rate9, rate10, rate11}
 use Rattle.published.specs.Published.{printed, form, nth, table_at}

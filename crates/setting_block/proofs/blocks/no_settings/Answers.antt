@@ -1,5 +1,4 @@
 -- `setting_block::no_settings`: zeros, and the plan of no groups.
-use borrow.Author.Rules.{rules}
 use Rattle.setting_block.proofs.blocks.no_settings.Goals as goal
 
 pub returns : goal.returns

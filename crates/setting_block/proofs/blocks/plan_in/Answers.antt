@@ -1,7 +1,6 @@
 -- `setting_block::plan_in`: the count is one octet, so that it fits.
 use mathlib.Core.Path.{◌∙◌}
 use native.Mathlib.Omega.{arith}
-use borrow.Author.Rules.{rules}
 use Rattle.setting_block.specs.Layout.{layout, edition}
 use Rattle.setting_block.specs.Blocks.{field_in, plan_in}
 use Rattle.setting_block.specs.BlockLaws.{field_number}

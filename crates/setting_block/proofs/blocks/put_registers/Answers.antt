@@ -4,7 +4,6 @@ use mathlib.Core.List.{List, ◌++◌, append_assoc}
 use Prim.Native.Nat.{ℕ}
 use native.Mathlib.Omega.{arith}
 use lib.ListN.{length, length-append}
-use borrow.Author.Rules.{rules}
 use Rattle.lists.specs.PartLaws.{two_parts}
 use Rattle.octet_numbers.specs.Numbers.{big_endian}
 use Rattle.octet_numbers.specs.NumberLaws.{length_big_endian}

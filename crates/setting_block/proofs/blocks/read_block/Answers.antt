@@ -1,6 +1,5 @@
 -- `setting_block::read_block`: its tests, then those of plan and registers; zeros where one refuses.
 use mathlib.Core.Path.{◌≡◌, sym, ap₂, ◌∙◌}
-use borrow.Author.Rules.{rules}
 use borrow.Author.Tests.{eq-eqb, ne_eqb}
 use Rattle.setting_block.specs.Layout.{edition}
 use Rattle.setting_block.specs.Blocks.{setting_number, block_number}

@@ -1,7 +1,6 @@
 -- `setting_block::registers_in`: each number is that of its field.
 use mathlib.Core.Path.{◌∙◌}
 use native.Mathlib.Omega.{arith}
-use borrow.Author.Rules.{rules}
 use Rattle.setting_block.specs.Layout.{layout, edition}
 use Rattle.setting_block.specs.Blocks.{registers_in}
 use Rattle.setting_block.specs.BlockLaws.{field_number}

@@ -1,6 +1,5 @@
 -- `setting_block::registers_number`: the test decides.
 use mathlib.Core.Path.{sym, ◌∙◌}
-use borrow.Author.Rules.{rules}
 use Rattle.setting_block.proofs.blocks.registers_number.Goals as goal
 
 pub returns-then-registers_ok : goal.returns-then-registers_ok

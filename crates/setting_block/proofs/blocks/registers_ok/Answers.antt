@@ -1,6 +1,5 @@
 -- `setting_block::registers_ok`: both pairs are tested, each at its width.
 use mathlib.Core.Path.{sym, ◌∙◌}
-use borrow.Author.Rules.{rules}
 use Rattle.setting_block.specs.Blocks.{registers_ok}
 use Rattle.setting_block.proofs.blocks.registers_ok.Goals as goal
 

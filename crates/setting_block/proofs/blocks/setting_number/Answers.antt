@@ -1,6 +1,5 @@
 -- `setting_block::setting_number`: that of the plan, then that of the registers.
 use mathlib.Core.Path.{ap₂, ◌∙◌}
-use borrow.Author.Rules.{rules}
 use Rattle.lists.specs.Choice.{and_then}
 use Rattle.setting_block.specs.Blocks.{setting_number}
 use Rattle.setting_block.proofs.blocks.setting_number.Goals as goal

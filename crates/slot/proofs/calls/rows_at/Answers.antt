@@ -1,6 +1,5 @@
 -- `slot::rows_at`: the rate of the place is the definition's.
 use mathlib.Core.Path.{ap, ◌∙◌}
-use borrow.Author.Rules.{rules}
 use Rattle.plan.specs.Rates.{rows_of}
 use Rattle.plan.specs.Places.{place_of}
 use Rattle.slot.specs.Calls.{rows_at}

@@ -1,7 +1,6 @@
 -- `slot::slot_number`: the state's number decides, then the place, then the areas' and the table's numbers.
 use mathlib.Core.Path.{◌≡◌, sym, ap, ap₂, ◌∙◌}
 use Prim.Native.Nat.{ℕ}
-use borrow.Author.Rules.{rules}
 use Rattle.lists.specs.ChoiceLaws.{then_next, onward}
 use Rattle.plan.specs.Records.{plan_in}
 use Rattle.plan.specs.Rates.{rows_of}

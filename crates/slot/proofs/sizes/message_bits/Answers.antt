@@ -1,6 +1,5 @@
 -- `slot::message_bits`: as the definition.
 use mathlib.Core.Path.{refl}
-use borrow.Author.Rules.{rules}
 use Rattle.slot.specs.Slots.{message_bits}
 use Rattle.slot.proofs.sizes.message_bits.Goals as goal
 

@@ -1,5 +1,4 @@
 -- `slot::sizes::shape`: the message is that of the definition.
-use borrow.Author.Rules.{rules}
 use Rattle.slot.proofs.sizes.shape.Goals as goal
 
 pub returns : goal.returns

@@ -1,7 +1,6 @@
 -- `slot::source_octets`: as the definition.
 use mathlib.Core.Path.{ap}
 use Prim.Native.Nat.{ℕ, ◌/◌}
-use borrow.Author.Rules.{rules}
 use Rattle.slot.specs.Slots.{source_octets}
 use Rattle.slot.proofs.sizes.source_octets.Goals as goal
 

@@ -1,7 +1,6 @@
 -- `slot_coder::code_slot`: the call's number decides whether the slot is coded.
 use mathlib.Core.Path.{◌≡◌, sym, ap, ◌∙◌}
 use Prim.Native.Nat.{ℕ}
-use borrow.Author.Rules.{rules}
 use borrow.Author.Tests.{eq-eqb, ne_eqb}
 use lib.ListN.{length-replicate}
 use Rattle.lists.specs.ChoiceLaws.{then_zero}

@@ -1,7 +1,6 @@
 -- `slot_reader::reader::read_slot`: refused as the slot call is, or the received slot's number and octets.
 use mathlib.Core.Path.{◌≡◌, sym, ap, subst, ◌∙◌}
 use Prim.Native.Nat.{ℕ}
-use borrow.Author.Rules.{rules}
 use lib.ListN.{length-replicate}
 use Rattle.lists.specs.ChoiceLaws.{then_zero}
 use Rattle.dispersal.specs.RegisterLaws.{register_is}

@@ -1,5 +1,4 @@
 -- `slot_reader::received::read_codeword`: the word reader is lent the parts that a codeword of the slot's rate takes.
-use borrow.Author.Rules.{rules}
 use Rattle.slot.proofs.AreaLaws.{areas}
 use Rattle.slot_reader.proofs.received.read_codeword.Goals as goal
 

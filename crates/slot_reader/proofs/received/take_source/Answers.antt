@@ -4,7 +4,6 @@ use Prim.Native.Nat.{◌+◌, ◌-◌}
 use native.Mathlib.Omega.{arith}
 use lib.ListN.{length}
 use lib.Seq.{length-take-le}
-use borrow.Author.Rules.{rules}
 use Rattle.lists.specs.Parts.{part}
 use Rattle.lists.specs.PartLaws.{length_part, part_rest, take_lent}
 use Rattle.lists.specs.RunLaws.{below_take, below_part, below_drop}

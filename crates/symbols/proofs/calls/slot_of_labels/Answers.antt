@@ -2,7 +2,6 @@
 use mathlib.Core.Path.{refl, sym, ◌∙◌}
 use Prim.Native.Nat.{ℕ}
 use lib.ListN.{length, replicate, length-replicate}
-use borrow.Author.Rules.{rules}
 use Rattle.refusal.specs.AnswerLaws.{refused, accepted}
 use Rattle.plan.specs.Sizes.{slot_bits}
 use Rattle.symbols.specs.CallLaws.{SlotReady, slot_labels_ready}

@@ -1,5 +1,4 @@
 -- `symbols::block_number`: as the definition.
-use borrow.Author.Rules.{rules}
 use Rattle.symbols.specs.Labels.{block_number}
 use Rattle.symbols.proofs.numbers.block_number.Goals as goal
 

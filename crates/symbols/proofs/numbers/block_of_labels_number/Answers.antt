@@ -1,6 +1,5 @@
 -- `symbols::block_of_labels_number`: where the lengths are right, the labels decide.
 use mathlib.Core.Path.{sym, ◌∙◌}
-use borrow.Author.Rules.{rules}
 use Rattle.lists.specs.ChoiceLaws.{then_first, then_next}
 use Rattle.symbols.specs.Labels.{block_of_labels_number}
 use Rattle.symbols.proofs.numbers.block_of_labels_number.Goals as goal

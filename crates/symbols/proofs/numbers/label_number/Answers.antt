@@ -1,10 +1,8 @@
 -- `symbols::label_number`: the labels passed are below the limit.
 use mathlib.Core.Path.{◌≡◌, sym, ap, ◌∙◌}
-use mathlib.Core.Bool.{Bool, true, false}
-use mathlib.Core.List.{List}
-use Prim.Native.Nat.{ℕ, ◌-◌, ◌^◌, ◌≤◌}
+use mathlib.Core.Bool.{true, false}
+use Prim.Native.Nat.{ℕ, ◌-◌, ◌^◌}
 use native.Mathlib.Omega.{arith}
-use lib.Dec.{ltb}
 use lib.ListN.{length, get_or}
 use borrow.Author.Rules.{rules}
 use borrow.Author.Tests.{lt-ltb, le-ltb}
@@ -12,7 +10,7 @@ use Rattle.lists.specs.Count.{every}
 use Rattle.lists.specs.CountLaws.{every_none, every_next, every_not}
 use Rattle.symbols.specs.Labels.{label_number}
 use Rattle.symbols.specs.LabelLaws.{one_shifted}
-use Rattle.symbols.proofs.numbers.label_number.Invariants.{Inv, fits}
+use Rattle.symbols.proofs.numbers.label_number.Invariants.{fits}
 use Rattle.symbols.proofs.numbers.label_number.Goals as goal
 
 pub loop-r-init : goal.loop-r-init

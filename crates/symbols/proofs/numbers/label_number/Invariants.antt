@@ -1,17 +1,11 @@
 -- `symbols::label_number`: the labels passed are below the limit.
-use mathlib.Core.Path.{◌≡◌, sym, ap, ◌∙◌}
-use mathlib.Core.Bool.{Bool, true, false}
+use mathlib.Core.Path.{◌≡◌}
+use mathlib.Core.Bool.{Bool, true}
 use mathlib.Core.List.{List}
 use Prim.Native.Nat.{ℕ, ◌-◌, ◌^◌, ◌≤◌}
-use native.Mathlib.Omega.{arith}
 use lib.Dec.{ltb}
 use lib.ListN.{length, get_or}
-use borrow.Author.Rules.{rules}
-use borrow.Author.Tests.{lt-ltb, le-ltb}
 use Rattle.lists.specs.Count.{every}
-use Rattle.lists.specs.CountLaws.{every_none, every_next, every_not}
-use Rattle.symbols.specs.Labels.{label_number}
-use Rattle.symbols.specs.LabelLaws.{one_shifted}
 use Rattle.symbols.proofs.numbers.label_number.Given as goal
 
 -- the test of label r

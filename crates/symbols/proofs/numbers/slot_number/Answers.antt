@@ -1,7 +1,6 @@
 -- `symbols::slot_number`: each way out rewrites with the tests on the way to it; only a known modulation divides.
 use mathlib.Core.Path.{sym, ◌∙◌}
 use native.Mathlib.Omega.{arith}
-use borrow.Author.Rules.{rules}
 use borrow.Author.Tests.{leb-true}
 use lib.Dec.{leb}
 use Rattle.lists.specs.ChoiceLaws.{and_left}

@@ -1,6 +1,5 @@
 -- `symbols::slot_of_labels_number`: where modulation, rate and lengths are right, the labels decide.
 use mathlib.Core.Path.{sym, ◌∙◌}
-use borrow.Author.Rules.{rules}
 use Rattle.lists.specs.ChoiceLaws.{then_first, then_next}
 use Rattle.plan.proofs.RateLaws.{between}
 use Rattle.symbols.specs.CallLaws.{slot_ready}

@@ -1,15 +1,13 @@
 -- `symbols::put_place`: of the labels passed the bits are put.
 use mathlib.Core.Path.{◌≡◌, refl}
-use mathlib.Core.List.{List}
-use Prim.Native.Nat.{ℕ, ◌+◌, ◌*◌, ◌-◌, ◌/◌, ◌^◌, ◌<◌, ◌≤◌}
+use Prim.Native.Nat.{◌-◌, ◌/◌, ◌^◌, ◌<◌}
 use native.Mathlib.Nat.{mul-zero}
 use native.Mathlib.Omega.{arith}
 use lib.Bits.{and_mask}
 use lib.ListN.{length, get_or}
 use borrow.Author.Rules.{rules}
-use Rattle.symbols.specs.Needs.{Put, weighed}
+use Rattle.symbols.specs.Needs.{weighed}
 use Rattle.symbols.proofs.Strides.{next_step, put_none, put_more}
-use Rattle.symbols.proofs.places.put_place.Invariants.{Inv}
 use Rattle.symbols.proofs.places.put_place.Goals.{In-loop-r}
 use Rattle.symbols.proofs.places.put_place.Lts.View.{up-In-loop-r}
 use Rattle.symbols.proofs.places.put_place.Goals as goal

@@ -1,14 +1,9 @@
 -- `symbols::put_place`: of the labels passed the bits are put.
-use mathlib.Core.Path.{◌≡◌, refl}
+use mathlib.Core.Path.{◌≡◌}
 use mathlib.Core.List.{List}
-use Prim.Native.Nat.{ℕ, ◌+◌, ◌*◌, ◌-◌, ◌/◌, ◌^◌, ◌<◌, ◌≤◌}
-use native.Mathlib.Nat.{mul-zero}
-use native.Mathlib.Omega.{arith}
-use lib.Bits.{and_mask}
-use lib.ListN.{length, get_or}
-use borrow.Author.Rules.{rules}
+use Prim.Native.Nat.{ℕ, ◌+◌, ◌*◌, ◌-◌, ◌≤◌}
+use lib.ListN.{length}
 use Rattle.symbols.specs.Needs.{Put, weighed}
-use Rattle.symbols.proofs.Strides.{next_step, put_none, put_more}
 use Rattle.symbols.proofs.places.put_place.Given as goal
 
 pub record Inv (labels : List ℕ) (shift start step : ℕ) (found bits : List ℕ) (r at : ℕ) : Type 0 where

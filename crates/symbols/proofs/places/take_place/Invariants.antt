@@ -1,16 +1,10 @@
 -- `symbols::take_place`: the area is filled with the labels that have one bit more, each read before it is replaced.
-use mathlib.Core.Path.{◌≡◌, sym, ap, ap₂, ◌∙◌}
+use mathlib.Core.Path.{◌≡◌}
 use mathlib.Core.List.{List}
-use Prim.Native.Nat.{ℕ, ◌+◌, ◌*◌, ◌-◌, ◌<◌}
-use native.Mathlib.Nat.{mul-zero}
-use native.Mathlib.Omega.{arith}
-use lib.ListN.{length, get_or}
-use borrow.Author.Rules.{rules}
-use Rattle.lists.specs.CountLaws.{length_table, get_or_table}
+use Prim.Native.Nat.{ℕ, ◌+◌, ◌*◌, ◌-◌}
+use lib.ListN.{length}
 use Rattle.lists.specs.Filling.{Filling}
-use Rattle.lists.specs.FillingLaws.{filling_none, filling_here, filling_more, filling_all}
 use Rattle.symbols.specs.Needs.{grown}
-use Rattle.symbols.proofs.Strides.{next_step}
 use Rattle.symbols.proofs.places.take_place.Given as goal
 
 pub record Inv (bits : List ℕ) (start step : ℕ) (found labels : List ℕ) (r at : ℕ) : Type 0 where

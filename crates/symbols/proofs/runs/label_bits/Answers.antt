@@ -1,16 +1,12 @@
 -- `symbols::label_bits`: the labels have the bits at the places passed.
 use mathlib.Core.Path.{◌≡◌, refl, sym, ap, ◌∙◌}
-use mathlib.Core.Bool.{Bool}
-use mathlib.Core.List.{List}
-use Prim.Native.Nat.{ℕ, ◌*◌, ◌-◌, ◌≤◌}
+use Prim.Native.Nat.{ℕ, ◌*◌, ◌-◌}
 use native.Mathlib.Omega.{arith}
 use lib.ListN.{length, length-replicate}
 use borrow.Author.Rules.{rules}
 use Rattle.lists.specs.CountLaws.{length_table}
-use Rattle.symbols.specs.Index.{stride_of}
 use Rattle.symbols.specs.Labels.{labels_of}
 use Rattle.symbols.proofs.Turns.{labels_to, to_none, taking, taken, to_all}
-use Rattle.symbols.proofs.runs.label_bits.Invariants.{Inv}
 use Rattle.symbols.proofs.runs.label_bits.Goals.{After-slice_known-2-1}
 use Rattle.symbols.proofs.runs.label_bits.Lts.View.{up-After-slice_known-2-1}
 use Rattle.symbols.proofs.runs.label_bits.Goals as goal

@@ -1,15 +1,11 @@
 -- `symbols::label_bits`: the labels have the bits at the places passed.
-use mathlib.Core.Path.{◌≡◌, refl, sym, ap, ◌∙◌}
+use mathlib.Core.Path.{◌≡◌}
 use mathlib.Core.Bool.{Bool}
 use mathlib.Core.List.{List}
-use Prim.Native.Nat.{ℕ, ◌*◌, ◌-◌, ◌≤◌}
-use native.Mathlib.Omega.{arith}
-use lib.ListN.{length, length-replicate}
-use borrow.Author.Rules.{rules}
-use Rattle.lists.specs.CountLaws.{length_table}
+use Prim.Native.Nat.{ℕ, ◌-◌, ◌≤◌}
+use lib.ListN.{length}
 use Rattle.symbols.specs.Index.{stride_of}
-use Rattle.symbols.specs.Labels.{labels_of}
-use Rattle.symbols.proofs.Turns.{labels_to, to_none, taking, taken, to_all}
+use Rattle.symbols.proofs.Turns.{labels_to}
 use Rattle.symbols.proofs.runs.label_bits.Given as goal
 
 pub record Inv (m : ℕ) (leftward : Bool) (run found : List ℕ) (step : ℕ) (labels : List ℕ) (place : ℕ) : Type 0 where

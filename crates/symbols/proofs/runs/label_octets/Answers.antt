@@ -1,7 +1,6 @@
 -- `symbols::label_octets`: the labels of the octets' bits.
 use mathlib.Core.Path.{sym, ap, ◌∙◌}
 use lib.ListN.{length}
-use borrow.Author.Rules.{rules}
 use Rattle.bits.specs.OctetLaws.{length_bits_of, bits_of_bits}
 use Rattle.symbols.specs.Labels.{labels_of, labels_of_octets}
 use Rattle.symbols.proofs.runs.label_octets.Goals as goal

@@ -1,14 +1,10 @@
 -- `symbols::unlabel_bits`: the bits at the places passed stand where they belong.
 use mathlib.Core.Path.{◌≡◌, refl}
-use mathlib.Core.Bool.{Bool}
-use mathlib.Core.List.{List}
-use Prim.Native.Nat.{ℕ, ◌-◌, ◌≤◌}
+use Prim.Native.Nat.{◌-◌}
 use native.Mathlib.Omega.{arith}
 use lib.ListN.{length}
 use borrow.Author.Rules.{rules}
-use Rattle.symbols.specs.Index.{stride_of}
-use Rattle.symbols.proofs.Turns.{strided, Placed, placed_none, placed_more, placed_all}
-use Rattle.symbols.proofs.runs.unlabel_bits.Invariants.{Inv}
+use Rattle.symbols.proofs.Turns.{strided, placed_none, placed_more, placed_all}
 use Rattle.symbols.proofs.runs.unlabel_bits.Goals as goal
 
 pub loop-place-init : goal.loop-place-init

@@ -1,13 +1,11 @@
 -- `symbols::unlabel_bits`: the bits at the places passed stand where they belong.
-use mathlib.Core.Path.{◌≡◌, refl}
+use mathlib.Core.Path.{◌≡◌}
 use mathlib.Core.Bool.{Bool}
 use mathlib.Core.List.{List}
 use Prim.Native.Nat.{ℕ, ◌-◌, ◌≤◌}
-use native.Mathlib.Omega.{arith}
 use lib.ListN.{length}
-use borrow.Author.Rules.{rules}
 use Rattle.symbols.specs.Index.{stride_of}
-use Rattle.symbols.proofs.Turns.{strided, Placed, placed_none, placed_more, placed_all}
+use Rattle.symbols.proofs.Turns.{Placed}
 use Rattle.symbols.proofs.runs.unlabel_bits.Given as goal
 
 pub record Inv (m : ℕ) (leftward : Bool) (labels : List ℕ) (step : ℕ) (run : List ℕ) (place : ℕ) : Type 0 where

@@ -1,7 +1,6 @@
 -- `symbols::unlabel_octets`: the octets of the labels' bits.
 use mathlib.Core.Path.{sym, ap, ◌∙◌}
 use lib.ListN.{length}
-use borrow.Author.Rules.{rules}
 use Rattle.bits.specs.Octets.{octets_of}
 use Rattle.symbols.specs.Labels.{octets_of_labels}
 use Rattle.symbols.specs.LabelLaws.{length_label_bits, label_bits_bits}

@@ -1,16 +1,11 @@
 -- `tlv::packets::body_ok`: all octets passed are 0xFF.
-use mathlib.Core.Path.{◌≡◌, refl, ap, ◌∙◌}
-use mathlib.Core.Bool.{Bool, true, false}
+use mathlib.Core.Path.{◌≡◌}
+use mathlib.Core.Bool.{true}
 use mathlib.Core.List.{List}
 use Prim.Native.Nat.{ℕ, ◌+◌, ◌-◌, ◌≤◌}
-use native.Mathlib.Omega.{arith}
-use borrow.Author.Tests.{eq-eqb, ne_eqb}
-use borrow.Author.Rules.{rules}
 use lib.Dec.{eqb}
 use lib.ListN.{get_or}
 use Rattle.lists.specs.Count.{every}
-use Rattle.lists.specs.CountLaws.{every_none, every_next, every_not}
-use Rattle.tlv.specs.HeadLaws.{body_other, body_null}
 use Rattle.tlv.proofs.packets.body_ok.Given as goal
 
 pub record Inv (lent : List ℕ) (p size body i : ℕ) : Type 0 where

@@ -1,6 +1,4 @@
 -- `tlv::packets::head_ok`: the first octet, then the type.
-use borrow.Author.Rules.{rules}
-use borrow.Author.Rules.{rules}
 use Rattle.tlv.specs.HeadLaws.{head_not, head_type}
 use Rattle.tlv.proofs.packets.head_ok.Goals as goal
 

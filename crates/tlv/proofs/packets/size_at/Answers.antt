@@ -1,7 +1,5 @@
 -- `tlv::packets::size_at`: two octets as one number.
 use native.Mathlib.Omega.{arith}
-use borrow.Author.Rules.{rules}
-use borrow.Author.Rules.{rules}
 use Rattle.tlv.specs.HeadLaws.{size_is}
 use Rattle.tlv.proofs.packets.size_at.Goals as goal
 

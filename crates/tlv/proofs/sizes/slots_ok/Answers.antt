@@ -1,5 +1,4 @@
 -- `tlv::sizes::slots_ok`: each way out rewrites with the tests on the way to it.
-use borrow.Author.Rules.{rules}
 use Rattle.tlv.specs.CallLaws.{slots_none, slots_part, slots_whole}
 use Rattle.tlv.proofs.sizes.slots_ok.Goals as goal
 

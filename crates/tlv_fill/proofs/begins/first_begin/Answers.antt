@@ -4,7 +4,7 @@ use native.Mathlib.Omega.{arith}
 use borrow.Author.Rules.{rules}
 use Rattle.tlv.specs.PacketLaws.{size_least}
 use Rattle.tlv.specs.Packets.{octets}
-use Rattle.tlv_fill.specs.BeginTurns.{Ahead, within_packet, ahead_packet, ahead_filler}
+use Rattle.tlv_fill.specs.BeginTurns.{within_packet, ahead_packet, ahead_filler}
 use Rattle.tlv_fill.proofs.begins.first_begin.Goals as goal
 
 pub loop-at-init : goal.loop-at-init

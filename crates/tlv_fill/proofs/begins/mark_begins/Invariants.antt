@@ -1,18 +1,13 @@
 -- `tlv_fill::begins::mark_begins`: h is the first beginning at or behind the slot's first octet.
-use mathlib.Core.Path.{◌≡◌, sym, ap, ◌∙◌}
+use mathlib.Core.Path.{◌≡◌}
 use mathlib.Core.List.{List}
 use Prim.Native.Nat.{ℕ, ◌+◌, ◌-◌, ◌*◌, ◌<◌, ◌≤◌}
-use native.Mathlib.Nat.{mul-le-mul_left}
 use native.Mathlib.Decide.{dec_lt}
 use native.Mathlib.Omega.{arith}
-use borrow.Author.Rules.{rules}
-use lib.ListN.{length, get_or}
+use lib.ListN.{length}
 use Rattle.lists.specs.Filling.{Filling}
-use Rattle.lists.specs.FillingLaws.{filling_none, filling_more, filling_all}
 use Rattle.tlv.specs.Fill.{reports}
-use Rattle.tlv.specs.FillLaws.{reports_at_law, length_reports}
-use Rattle.tlv_fill.specs.BeginTurns.{Ahead, ahead_start, ahead_later, report_at}
-use Rattle.tlv_fill.specs.Needs.{MarkNeeds}
+use Rattle.tlv_fill.specs.BeginTurns.{Ahead}
 use Rattle.tlv_fill.proofs.begins.mark_begins.Given as goal
 
 pub record Inv (D : ℕ) (packets : List ℕ) (taken owed : ℕ) (found begins : List ℕ) (k start h : ℕ) : Type 0 where

@@ -1,6 +1,5 @@
 -- `tlv_fill::begins::report_of`: each way out rewrites with the test.
 use borrow.Author.Tests.{lt-ltb, le-ltb}
-use borrow.Author.Rules.{rules}
 use Rattle.tlv_fill.proofs.begins.report_of.Goals as goal
 
 pub returns-then-rest-size : goal.returns-then-rest-size

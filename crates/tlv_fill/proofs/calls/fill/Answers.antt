@@ -2,7 +2,6 @@
 use mathlib.Core.Path.{sym, ap, ◌∙◌}
 use Prim.Native.Nat.{ℕ, ◌-◌}
 use native.Mathlib.Omega.{arith}
-use borrow.Author.Rules.{rules}
 use lib.ListN.{length}
 use Rattle.plan.specs.Rates.{data_octets_of}
 use Rattle.tlv.specs.CallLaws.{FillReady, fill_ready, fill_refused, fill_done}
@@ -19,7 +18,7 @@ returns-then-number-ne0 c =
     let a = c.args in
     let n = c.fill_number-number in
     let q =
-      fill_refused a.rate a.packets.now a.taken a.owed a.slots.now a.begins.now n.result n.ensures c.if-number-ne0.true in
+    fill_refused a.rate a.packets.now a.taken a.owed a.slots.now a.begins.now n.result n.ensures c.if-number-ne0.true in
     record { value = q.0; slots_after = q.1.0; begins_after = q.1.1 }
 
 pub overflow_sub-end : goal.overflow_sub-end
@@ -60,12 +59,12 @@ returns c =
     let n = c.fill_number-number in
     let r = ready in
     let q =
-      fill_done a.rate a.packets.now a.taken a.owed a.slots.now a.begins.now n.result n.ensures c.if-number-ne0.false
-      c.fewer.result c.lacking.result _ _
-      c.fewer.ensures
-      (c.lacking.ensures ∙ ap lacking c.beyond.ensures)
-      c.lay.ensures
-      (c.mark_begins.ensures
-      ∙ ap (λ (x : ℕ). reports x (length a.begins.now) a.packets.now a.taken a.owed) c.data_octets.ensures
-      ∙ ap (λ (x : ℕ). reports (data_octets_of a.rate) x a.packets.now a.taken a.owed) r.lent.reports) in
+    fill_done a.rate a.packets.now a.taken a.owed a.slots.now a.begins.now n.result n.ensures c.if-number-ne0.false
+    c.fewer.result c.lacking.result _ _
+    c.fewer.ensures
+    (c.lacking.ensures ∙ ap lacking c.beyond.ensures)
+    c.lay.ensures
+    (c.mark_begins.ensures
+    ∙ ap (λ (x : ℕ). reports x (length a.begins.now) a.packets.now a.taken a.owed) c.data_octets.ensures
+    ∙ ap (λ (x : ℕ). reports (data_octets_of a.rate) x a.packets.now a.taken a.owed) r.lent.reports) in
     record { value = q.0; slots_after = q.1.0; begins_after = q.1.1 }

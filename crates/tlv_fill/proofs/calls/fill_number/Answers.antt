@@ -1,6 +1,5 @@
 -- `tlv_fill::calls::fill_number`: what is lent, then the packets.
 use mathlib.Core.Path.{◌≡◌, sym, ◌∙◌}
-use borrow.Author.Rules.{rules}
 use Rattle.lists.specs.ChoiceLaws.{then_first, then_next}
 use Rattle.tlv.specs.Calls.{packet_number, fill_number}
 use Rattle.tlv_fill.proofs.calls.fill_number.Goals as goal

@@ -2,12 +2,9 @@
 use mathlib.Core.Path.{sym}
 use Prim.Native.Nat.{◌+◌, ◌-◌, ◌%◌, ◌<◌}
 use native.Mathlib.Omega.{arith}
-use borrow.Author.Rules.{rules}
 use lib.ListN.{length, get_or}
 use Rattle.lists.specs.FillingLaws.{filling_none, filling_more, filling_all}
-use Rattle.lists.specs.Filling.{Filling}
 use Rattle.lists.specs.CountLaws.{length_table, get_or_table}
-use Rattle.lists.specs.Count.{table}
 use Rattle.tlv.specs.Fill.{filler}
 use Rattle.tlv_fill.proofs.octets.put_fillers.Goals as goal
 

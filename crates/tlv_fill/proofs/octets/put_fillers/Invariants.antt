@@ -1,12 +1,7 @@
 -- `tlv_fill::octets::put_fillers`: the octets passed are those of fillers.
-use mathlib.Core.Path.{sym}
-use Prim.Native.Nat.{◌+◌, ◌-◌, ◌%◌, ◌<◌}
-use native.Mathlib.Omega.{arith}
-use borrow.Author.Rules.{rules}
+use Prim.Native.Nat.{◌+◌, ◌-◌, ◌%◌}
 use lib.ListN.{length, get_or}
-use Rattle.lists.specs.FillingLaws.{filling_none, filling_more, filling_all}
 use Rattle.lists.specs.Filling.{Filling}
-use Rattle.lists.specs.CountLaws.{length_table, get_or_table}
 use Rattle.lists.specs.Count.{table}
 use Rattle.tlv.specs.Fill.{filler}
 use Rattle.tlv_fill.proofs.octets.put_fillers.Given as goal

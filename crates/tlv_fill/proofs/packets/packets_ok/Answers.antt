@@ -1,15 +1,12 @@
 -- `tlv_fill::packets::packets_ok`: what is left to test is the test from h on.
-use mathlib.Core.Path.{◌≡◌, refl, sym, ap, ◌∙◌}
-use mathlib.Core.List.{List}
+use mathlib.Core.Path.{refl, sym, ap, ◌∙◌}
 use Prim.Native.Nat.{ℕ, ◌+◌, ◌-◌, ◌≤◌}
 use native.Mathlib.Omega.{arith}
 use borrow.Author.Rules.{rules}
-use borrow.Author.Tests.{not-true, not-false}
 use lib.ListN.{length}
-use Rattle.tlv.specs.Packets.{octets, size_at, packets_from, packets_ok}
+use Rattle.tlv.specs.Packets.{octets, size_at, packets_from}
 use Rattle.tlv.specs.PacketLaws.{size_least}
 use Rattle.tlv_fill.specs.PacketTurns.{accept_end, accept_short, accept_wrong, accept_past, accept_body, accept_more}
-use Rattle.tlv_fill.proofs.packets.packets_ok.Invariants.{Inv}
 use Rattle.tlv_fill.proofs.packets.packets_ok.Goals.{Else-total-h, Else-total-h-lt4}
 use Rattle.tlv_fill.proofs.packets.packets_ok.Goals as goal
 

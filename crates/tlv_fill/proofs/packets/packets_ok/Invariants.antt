@@ -1,14 +1,9 @@
 -- `tlv_fill::packets::packets_ok`: what is left to test is the test from h on.
-use mathlib.Core.Path.{◌≡◌, refl, sym, ap, ◌∙◌}
+use mathlib.Core.Path.{◌≡◌}
 use mathlib.Core.List.{List}
-use Prim.Native.Nat.{ℕ, ◌+◌, ◌-◌, ◌≤◌}
-use native.Mathlib.Omega.{arith}
-use borrow.Author.Rules.{rules}
-use borrow.Author.Tests.{not-true, not-false}
+use Prim.Native.Nat.{ℕ, ◌-◌, ◌≤◌}
 use lib.ListN.{length}
-use Rattle.tlv.specs.Packets.{octets, size_at, packets_from, packets_ok}
-use Rattle.tlv.specs.PacketLaws.{size_least}
-use Rattle.tlv_fill.specs.PacketTurns.{accept_end, accept_short, accept_wrong, accept_past, accept_body, accept_more}
+use Rattle.tlv.specs.Packets.{octets, packets_from, packets_ok}
 use Rattle.tlv_fill.proofs.packets.packets_ok.Given as goal
 
 pub record Inv (packets : List ℕ) (total h : ℕ) : Type 0 where

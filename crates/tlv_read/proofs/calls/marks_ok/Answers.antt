@@ -1,12 +1,9 @@
 -- `tlv_read::calls::marks_ok`: all marks passed are 0 or 1.
 use mathlib.Core.Bool.{true}
-use mathlib.Core.Path.{◌≡◌}
 use Prim.Native.Nat.{◌-◌}
 use borrow.Author.Tests.{le-leb, lt-leb}
 use borrow.Author.Rules.{rules}
-use lib.ListN.{length, get_or}
 use Rattle.lists.specs.CountLaws.{every_none, every_next}
-use Rattle.lists.specs.Count.{every}
 use Rattle.tlv.specs.Calls.{mark_ok}
 use Rattle.tlv.specs.CallLaws.{hold_not, hold_all}
 use Rattle.tlv_read.proofs.calls.marks_ok.Goals as goal

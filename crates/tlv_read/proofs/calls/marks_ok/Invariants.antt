@@ -2,13 +2,9 @@
 use mathlib.Core.Bool.{true}
 use mathlib.Core.Path.{◌≡◌}
 use Prim.Native.Nat.{◌-◌}
-use borrow.Author.Tests.{le-leb, lt-leb}
-use borrow.Author.Rules.{rules}
 use lib.ListN.{length, get_or}
-use Rattle.lists.specs.CountLaws.{every_none, every_next}
 use Rattle.lists.specs.Count.{every}
 use Rattle.tlv.specs.Calls.{mark_ok}
-use Rattle.tlv.specs.CallLaws.{hold_not, hold_all}
 use Rattle.tlv_read.proofs.calls.marks_ok.Given as goal
 
 abbrev pub invariant-loop-k : goal.invariant-loop-k

@@ -1,14 +1,10 @@
 -- `tlv_read::calls::places_ok`: all reports passed are octets of their slots, or none.
 use mathlib.Core.Bool.{true}
-use mathlib.Core.Path.{◌≡◌, sym, ap, ◌∙◌}
+use mathlib.Core.Path.{◌≡◌}
 use Prim.Native.Nat.{◌-◌}
-use borrow.Author.Tests.{not-true, not-false}
-use borrow.Author.Rules.{rules}
 use lib.ListN.{length, get_or}
-use Rattle.lists.specs.CountLaws.{every_none, every_next}
 use Rattle.lists.specs.Count.{every}
 use Rattle.tlv.specs.Calls.{place_ok}
-use Rattle.tlv.specs.CallLaws.{hold_not, hold_all}
 use Rattle.tlv_read.proofs.calls.places_ok.Given as goal
 
 abbrev pub invariant-loop-k : goal.invariant-loop-k

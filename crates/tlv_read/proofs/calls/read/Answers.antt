@@ -1,7 +1,6 @@
 -- `tlv_read::calls::read`: a refusal leaves all, an accepted call what the reading from its start gives.
 use mathlib.Core.Path.{sym, ap, ◌∙◌}
 use native.Mathlib.Omega.{arith}
-use borrow.Author.Rules.{rules}
 use lib.ListN.{length}
 use Rattle.tlv.specs.CallLaws.{read_refused, read_done}
 use Rattle.tlv.specs.Calls.{laid}
@@ -13,7 +12,7 @@ pub returns-then-number-ne0 : goal.returns-then-number-ne0
 returns-then-number-ne0 c =
     let a = c.args in
     let q =
-      read_refused a.rate a.slots.now a.begins.now a.lost.now a.first a.packets.now c.read_number-number.result c.read_number-number.ensures c.if-number-ne0.true in
+    read_refused a.rate a.slots.now a.begins.now a.lost.now a.first a.packets.now c.read_number-number.result c.read_number-number.ensures c.if-number-ne0.true in
     record { value = q.0; packets_after = q.1 }
 
 pub start_at-from-requires : goal.start_at-from-requires
@@ -35,7 +34,7 @@ returns c =
     let g = reading_is a.rate a.slots.now a.begins.now a.lost.now a.first a.packets.now (sym n.ensures ∙ c.if-number-ne0.false) d.result d.ensures c.start_at-from.result c.start_at-from.ensures in
     let r = c.read_from in
     let q =
-      read_done a.rate a.slots.now a.begins.now a.lost.now a.first a.packets.now n.result n.ensures c.if-number-ne0.false r.result _
-      (r.ensures.answer ∙ ap (λ (x : Reading). record { number = 0; written = length x.written; unfinished = x.unfinished }) g)
-      (r.ensures.octets ∙ ap (λ (x : Reading). laid x.written a.packets.now) g) in
+    read_done a.rate a.slots.now a.begins.now a.lost.now a.first a.packets.now n.result n.ensures c.if-number-ne0.false r.result _
+    (r.ensures.answer ∙ ap (λ (x : Reading). record { number = 0; written = length x.written; unfinished = x.unfinished }) g)
+    (r.ensures.octets ∙ ap (λ (x : Reading). laid x.written a.packets.now) g) in
     record { value = q.0; packets_after = q.1 }

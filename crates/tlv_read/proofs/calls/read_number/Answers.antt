@@ -1,8 +1,6 @@
 -- `tlv_read::calls::read_number`: each way out rewrites with the tests on the way to it.
 use mathlib.Core.Path.{sym, ◌∙◌}
 use native.Mathlib.Omega.{arith}
-use borrow.Author.Tests.{not-true, not-false}
-use borrow.Author.Rules.{rules}
 use Rattle.tlv.specs.CallLaws.{rate_data}
 use Rattle.tlv.specs.Calls.{read_number}
 use Rattle.tlv_read.proofs.calls.read_number.Goals as goal

@@ -3,7 +3,7 @@ use Prim.Native.Nat.{◌*◌, ◌-◌, ◌≤◌}
 use native.Mathlib.Nat.{mul-le-mul_left}
 use native.Mathlib.Omega.{arith}
 use borrow.Author.Rules.{rules}
-use Rattle.tlv_read.specs.SlotTurns.{Unmet, unmet_start, unmet_next, meets_here, meets_none}
+use Rattle.tlv_read.specs.SlotTurns.{unmet_start, unmet_next, meets_here, meets_none}
 use Rattle.tlv_read.proofs.slots.first_lost.Goals as goal
 
 pub loop-k-init : goal.loop-k-init

@@ -1,9 +1,6 @@
 -- `tlv_read::slots::first_lost`: no slot passed is met.
-use Prim.Native.Nat.{◌*◌, ◌-◌, ◌≤◌}
-use native.Mathlib.Nat.{mul-le-mul_left}
-use native.Mathlib.Omega.{arith}
-use borrow.Author.Rules.{rules}
-use Rattle.tlv_read.specs.SlotTurns.{Unmet, unmet_start, unmet_next, meets_here, meets_none}
+use Prim.Native.Nat.{◌-◌}
+use Rattle.tlv_read.specs.SlotTurns.{Unmet}
 use Rattle.tlv_read.proofs.slots.first_lost.Given as goal
 
 abbrev pub invariant-loop-k : goal.invariant-loop-k

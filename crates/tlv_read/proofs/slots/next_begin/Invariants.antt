@@ -1,11 +1,6 @@
 -- `tlv_read::slots::next_begin`: no slot passed is sound with a report.
-use Prim.Native.Nat.{ℕ, ◌+◌, ◌*◌, ◌-◌, ◌<◌, ◌≤◌}
-use mathlib.Core.Path.{ap, ◌∙◌}
-use mathlib.Core.Logic.{⊎_elim}
-use native.Mathlib.Nat.{mul-le-mul_left, mul-le-mul_right}
-use native.Mathlib.Omega.{arith}
-use borrow.Author.Rules.{rules}
-use Rattle.tlv_read.specs.SlotTurns.{Silent, silent_start, silent_lost, silent_none, on_here, on_none}
+use Prim.Native.Nat.{◌-◌}
+use Rattle.tlv_read.specs.SlotTurns.{Silent}
 use Rattle.tlv_read.proofs.slots.next_begin.Given as goal
 
 abbrev pub invariant-loop-k : goal.invariant-loop-k

@@ -1,7 +1,6 @@
 -- `tlv_read::slots::start_at`: each way out rewrites with the test.
 use mathlib.Core.Path.{sym, ◌∙◌}
 use borrow.Author.Tests.{eq-eqb, ne_eqb}
-use borrow.Author.Rules.{rules}
 use Rattle.tlv.specs.Read.{start}
 use Rattle.tlv_read.proofs.slots.start_at.Goals as goal
 

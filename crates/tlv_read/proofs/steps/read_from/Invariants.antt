@@ -1,11 +1,6 @@
 -- `tlv_read::steps::read_from`: the area holds what was written, and the reading from p on is left.
-use Rattle.tlv_read.specs.ReadTurns.{goal, Turn, Moves, turn_start, turn_end, turn_moves, turn_next}
-use Rattle.lists.specs.PartLaws.{put_lent, length_part}
-use borrow.Author.Rules.{rules}
-use native.Mathlib.Omega.{arith}
+use Rattle.tlv_read.specs.ReadTurns.{goal, Turn}
 use Prim.Native.Nat.{◌+◌, ◌-◌, ◌*◌}
-use lib.ListN.{length}
-use mathlib.Core.Path.{ap, ◌∙◌}
 use Rattle.tlv_read.proofs.steps.read_from.Given as goal
 
 abbrev pub invariant-loop-step : goal.invariant-loop-step

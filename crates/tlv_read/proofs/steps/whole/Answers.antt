@@ -1,7 +1,6 @@
 -- `tlv_read::steps::whole`: a lost slot that is met, the end of the slots, or neither.
 use mathlib.Core.Path.{refl}
 use native.Mathlib.Omega.{arith}
-use borrow.Author.Rules.{rules}
 use Rattle.tlv_read.specs.StepLaws.{whole_lost, whole_sound}
 use Rattle.tlv_read.proofs.steps.whole.Goals as goal
 

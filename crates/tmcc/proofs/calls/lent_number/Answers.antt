@@ -1,6 +1,5 @@
 -- `tmcc::lent_number`: the settings are tested, then what a codeword is lent.
 use mathlib.Core.Path.{◌≡◌, sym, ap, ◌∙◌}
-use borrow.Author.Rules.{rules}
 use Rattle.dispersal.specs.Register.{settings_ok}
 use Rattle.plan.specs.Sizes.{block_width}
 use Rattle.codeword.specs.declared.Shape.{Shape}
