@@ -10,11 +10,18 @@ use Rattle.lists.specs.Pieces.{pieces_all}
 use Rattle.lists.specs.Runs.{Octets}
 use Rattle.lists.specs.RunLaws.{below_append, below_part}
 use Rattle.refusal.specs.Numbers.{DUMMY}
+use Rattle.dispersal.specs.DispersalLaws.{dispersed_twice}
+use Rattle.bch.proofs.BchLaws.{bch_bits_bits, length_bch_bits, bch_bits_is_remainder, bch_bits_only}
 use Rattle.plan.specs.declared.Plan.{Plan}
 use Rattle.plan.specs.declared.FrameState.{FrameState}
 use Rattle.plan.specs.Sizes.{slot_octets, frame_octets}
 use Rattle.plan.specs.Places.{group_at, carries}
 use Rattle.plan.specs.Rates.{packets_of}
+use Rattle.plan.proofs.RateLaws.{five_hold}
+use Rattle.plan.specs.Plans.{modulation_of, slots_of, data_slots_of}
+use Rattle.plan.proofs.PlanLaws.{accepted, group_values}
+use Rattle.plan.proofs.PlaceLaws as runs
+use Rattle.plan.proofs.PlaceLaws.{group_holds}
 use Rattle.packets.specs.Packets.{packed}
 use Rattle.packets.specs.PacketLaws.{packed_octets, pack_unpack, unpack_pack}
 use Rattle.symbols.specs.CallLaws.{slot_labels_slot, labels_slot_labels, block_labels_block, labels_block_labels}
@@ -40,7 +47,7 @@ use Rattle.frame.specs.Needs.{Lent}
 use Rattle.frame.proofs.CallLaws.{frame_lent, frame_yes, read_lent, read_yes}
 use Rattle.frame.proofs.SlotBySlot.{coded_to_law, read_to_law, taken, code_answer_law, code_area_law, read_answer_law, read_area_law, pass_answer}
 use Rattle.lookup.proofs.LookupLaws.{tables_accepted}
-use Rattle.demands.specs.Statements.{SlotCodedThenRead, SlotReadThenCoded, header_octets, PacketsCodedThenRead, PacketsReadThenPacked, PublishedTablesTaken, SlotAccepted, FrameSlotAccepted, BlockAccepted, SlotMovesOn, PackedThenUnpacked, UnpackedThenPacked, FrameCodedThenRead, FrameReadThenCoded, FrameCodedBySlots, FrameReadBySlots, BlockCodedThenRead, BlockReadThenCoded, SlotLabelsBack, LabelsSlotBack, BlockLabelsBack, LabelsBlockBack}
+use Rattle.demands.specs.Statements.{SlotCodedThenRead, SlotReadThenCoded, header_octets, PacketsCodedThenRead, PacketsReadThenPacked, PublishedTablesTaken, SlotAccepted, FrameSlotAccepted, BlockAccepted, SlotMovesOn, PackedThenUnpacked, UnpackedThenPacked, FrameCodedThenRead, FrameReadThenCoded, FrameCodedBySlots, FrameReadBySlots, BlockCodedThenRead, BlockReadThenCoded, SlotLabelsBack, LabelsSlotBack, BlockLabelsBack, LabelsBlockBack, RunsCover, FivesHold, BchRemainder, DispersedTwice}
 
 pub slot_coded_then_read : SlotCodedThenRead
 slot_coded_then_read = slots.code_then_read
@@ -109,6 +116,30 @@ block_labels_back = block_labels_block
 
 pub labels_block_back : LabelsBlockBack
 labels_block_back = labels_block_labels
+
+pub runs_cover : RunsCover
+runs_cover p h = record {
+  cover = λ s l m. ((group_holds p s (accepted p h) l m).group, runs.runs_cover p s h l m);
+  once = λ s g b. runs.runs_once p s g b h;
+  within = λ s g b. runs.runs_within p s g b h;
+}
+
+pub fives_hold : FivesHold
+unfolding data_slots_of
+fives_hold p g h l =
+    let v = group_values p g (accepted p h) l in
+    five_hold (modulation_of p g) (slots_of p g) v.modulation v.fives
+
+pub bch_remainder : BchRemainder
+bch_remainder m o = record {
+  bits = bch_bits_bits m;
+  long = length_bch_bits m;
+  divides = (bch_bits_is_remainder m o).divides;
+  only = λ b z l d. sym (bch_bits_only m b o z l d);
+}
+
+pub dispersed_back : DispersedTwice
+dispersed_back = dispersed_twice
 
 -- a dummy has no header and data octets
 no_octets : (p : Plan) (u v : List ℕ) (k : ℕ) → carries p (k + 1) ≡ false → source_in p u k ≡ source_in p v k

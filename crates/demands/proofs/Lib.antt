@@ -8,3 +8,5 @@ pub mod CardRules
 pub mod StuffRules
 pub mod PointRules
 pub mod PositionRules
+pub mod NumberRules
+pub mod WalkRules

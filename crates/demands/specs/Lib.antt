@@ -4,3 +4,4 @@ pub mod CardRequests
 pub mod StuffRequests
 pub mod PointRequests
 pub mod PositionRequests
+pub mod CallStatements

@@ -1,9 +1,9 @@
 -- What the framer and its reader are proved to do, as statements over the definitions that the contracts of the public
 -- entries cite. "Coded" means that the coding call's number is 0 (document 01, "What demand 3 compares").
-use Rattle.std.specs.Prelude.{◌≡◌, true, false, List, [], ◌∷◌, ◌++◌, ◌↔◌, ℕ, ◌+◌, ◌-◌, ◌%◌, ◌^◌, ◌<◌, ◌≤◌, eqb, length, get_or, take, drop, replicate}
+use Rattle.std.specs.Prelude.{◌≡◌, true, false, List, [], ◌∷◌, ◌++◌, ◌↔◌, ℕ, ◌+◌, ◌-◌, ◌%◌, ◌^◌, ◌<◌, ◌≤◌, eqb, length, get_or, take, drop, replicate, Bool, ◌*◌, ◌/◌}
 use Rattle.lists.specs.Choice.{pick}
 use Rattle.lists.specs.Count.{table}
-use Rattle.lists.specs.Runs.{Octets}
+use Rattle.lists.specs.Runs.{Octets, Bits}
 use Rattle.refusal.specs.Numbers.{DUMMY}
 use Rattle.refusal.specs.Answers.{BackAgain}
 use Rattle.bits.specs.Digits.{digits}
@@ -17,8 +17,8 @@ use Rattle.ldpc.specs.Parity.{times, parity_of, Only}
 use Rattle.plan.specs.declared.Plan.{Plan}
 use Rattle.plan.specs.declared.FrameState.{FrameState}
 use Rattle.plan.specs.Rates.{rows_of, packets_of, symbols_of}
-use Rattle.plan.specs.Plans.{modulation_of, rate_of, plan_number}
-use Rattle.plan.specs.Places.{group_at, carries}
+use Rattle.plan.specs.Plans.{modulation_of, rate_of, plan_number, slots_of, data_slots_of}
+use Rattle.plan.specs.Places.{group_at, carries, InRun}
 use Rattle.plan.specs.Sizes.{slot_octets, slot_width, block_octets}
 use Rattle.plan.specs.Records.{plan_in}
 use Rattle.plan.specs.States.{passed}
@@ -222,6 +222,35 @@ abbrev pub LabelsBlockBack : Type 0
 LabelsBlockBack =
     (labels : List ℕ) (room : ℕ) → block_of_labels_number labels room ≡ 0
     → BackAgain (blockLabelsNumber (length (block_of_labels labels)) (length labels)) (labels_of_block (block_of_labels labels)) labels
+
+-- document 01, "Plan and place": "Of a group's n slots the first n × modulation / 5 carry data; the others, at the end of the run,
+-- are dummies": the data runs and dummy runs of a plan's groups cover slots 1 to 120, each once
+pub record RunsOnce (p : Plan) : Type 0 where
+  pub cover : (s : ℕ) → 1 ≤ s → s ≤ 120 → (group_at p s < p.count) × InRun p (group_at p s) (carries p s) s
+  pub once : (s g : ℕ) (b : Bool) → g < p.count → InRun p g b s → (g ≡ group_at p s) × (b ≡ carries p s)
+  pub within : (s g : ℕ) (b : Bool) → g < p.count → InRun p g b s → (1 ≤ s) × (s ≤ 120)
+
+abbrev pub RunsCover : Type 0
+RunsCover = (p : Plan) → plan_number p ≡ 0 → RunsOnce p
+
+-- "Symbols": "The data slots of each five planned for one modulation hold 44,880 symbols in all"
+abbrev pub FivesHold : Type 0
+FivesHold = (p : Plan) (g : ℕ) → plan_number p ≡ 0 → g < p.count → data_slots_of p g * symbols_of (modulation_of p g) ≡ slots_of p g / 5 * 44880
+
+-- "Checks in the slot": "The BCH bits are the remainder, on division by the generator, of message times the 192nd power, highest
+-- power first": they are 192 bits and a remainder, and no other 192 bits are
+pub record OneRemainder (m : List ℕ) : Type 0 where
+  pub bits : Bits (bch_bits m)
+  pub long : length (bch_bits m) ≡ 192
+  pub divides : Divides generator (polynomial_of m * 2 ^ 192 ⊕ polynomial_of (bch_bits m))
+  pub only : (b : List ℕ) → Bits b → length b ≡ 192 → Divides generator (polynomial_of m * 2 ^ 192 ⊕ polynomial_of b) → b ≡ bch_bits m
+
+abbrev pub BchRemainder : Type 0
+BchRemainder = (m : List ℕ) → Bits m → OneRemainder m
+
+-- "Each dispersed bit is added modulo 2 to the register's bit": dispersed twice from one register, bits are themselves again
+abbrev pub DispersedTwice : Type 0
+DispersedTwice = (w mask r : ℕ) (u : List ℕ) → Bits u → dispersed w mask r (dispersed w mask r u) ≡ u
 
 -- DEMAND 3: the BCH bits of a coded word, "all 192, both before dispersal", those that stand in it once dispersal is taken
 -- off, ..

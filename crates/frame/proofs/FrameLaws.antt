@@ -23,7 +23,7 @@ use Rattle.plan.proofs.PlanLaws.{accepted}
 use Rattle.plan.specs.Places.{group_at, carries}
 use Rattle.plan.proofs.PlaceLaws.{group_holds}
 use Rattle.plan.specs.States.{open_number, opened}
-use Rattle.plan.specs.Needs.{Ready}
+use Rattle.plan.specs.Needs.{Sound, Ready}
 use Rattle.plan.proofs.StateLaws.{open_sound}
 use Rattle.slot.specs.Slots.{message_bits, source_octets, register_after, covered_bits}
 use Rattle.slot.specs.Calls.{rows_at}
@@ -91,11 +91,15 @@ module _ (p : Plan) (mask start : ℕ) where
     unfolding opened
     first_state = rw (eq-eqb (open_number p mask start) 0 o, register_none)
 
-    -- every state on the way can be worked on
-    pub state_ready : (k : ℕ) → k < 120 → Ready (state_before p mask start k)
-    state_ready k l =
+    -- plan and register of every state on the way are sound, the last one's too
+    pub state_sound : (k : ℕ) → Sound (state_before p mask start k)
+    state_sound k =
         let z = open_sound p mask start o in
-        record { sound = record { numbered = omega arith; plan = z.plan; mask = z.mask; start = z.start; register = register_ok_law k }; left = omega arith }
+        record { numbered = omega arith; plan = z.plan; mask = z.mask; start = z.start; register = register_ok_law k }
+
+    -- and it can be worked on before slot 120 is past
+    pub state_ready : (k : ℕ) → k < 120 → Ready (state_before p mask start k)
+    state_ready k l = record { sound = state_sound k; left = omega arith }
 
 -- what holds at slot k + 1 of a frame whose number is 0
 pub record At (p : Plan) (ts : List ℕ) (mask start k : ℕ) : Type 0 where
