@@ -13,7 +13,7 @@ help: ## prints these lines
 demo: command ## proves and builds the command s3frame, frames a sample of packets and reads the frames back
 	tools/demo
 
-test: ## the gate: every proof from nothing, edits that the prover must refuse, the programs, the tests of tests/
+test: ## the gate: every proof, edits that the prover must refuse, the programs, the tests of tests/
 	.ci/run
 
 lib: ## proves the calls for C and Rust, and leaves them in target/staticlib/libs3frame.a, for include/s3frame.h
