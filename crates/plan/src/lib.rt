@@ -9,10 +9,10 @@ mod places;
 mod rates;
 mod state;
 
-pub use groups::{data_slots, plan_number};
+pub use groups::{check_plan, data_slots};
 pub use places::place_of;
 pub use rates::{MODULATIONS, RATES, data_octets, known, packets, rows};
-pub use state::{advanced, next_place, open, pass, state_number};
+pub use state::{advanced, check_state, next_place, open, pass};
 
 // A slot: its bits, its octets, the width of its register, and the most parity bits, and the most header and data octets,
 // that one has.
