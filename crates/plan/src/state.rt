@@ -3,11 +3,11 @@ ghost use Rattle.std.specs.Prelude.{◌≡◌, ◌≤◌};
 ghost use Rattle.refusal.specs.Answers.{number};
 ghost use Rattle.plan.specs.Places.{place_of};
 ghost use Rattle.plan.specs.Records.{plan_in};
-ghost use Rattle.plan.specs.States.{moved_on, open_number, opened, sound_number, state_number, pass_number, passed};
+ghost use Rattle.plan.specs.States.{as_answer, zeros, moved_on, open_number, opened, sound_number, state_number, pass_number, passed};
 
 use crate::groups::check_plan;
 use crate::places::place_of;
-use crate::{Answer, FrameState, Place, Plan, SLOT_WIDTH, no_plan, plan_in, state_at};
+use crate::{FrameState, Place, Plan, SLOT_WIDTH, plan_in, state_at};
 use refusal::Refusal;
 
 // The refusal of a plan or of a register's settings.
@@ -22,21 +22,13 @@ fn check_opening(plan: Plan, mask: u32, start: u32) -> Result<(), Refusal>
     Ok(())
 }
 
-// Opens a frame: the state at slot 1, or the refusal and a state of zeros.
+// Opens a frame: the state at slot 1, or the refusal.
 #[tactic(auto, using(refusal::specs::AnswerLaws::refused_not_0), unfolding(crate::specs::States::opened))]
-pub fn open(plan: Plan, mask: u32, start: u32) -> Answer
-    ensures { result ≡ opened plan mask start }
+pub fn open(plan: Plan, mask: u32, start: u32) -> Result<FrameState, Refusal>
+    ensures { as_answer zeros result ≡ opened plan mask start }
 {
-    match check_opening(plan, mask, start) {
-        Ok(()) => Answer {
-            number: 0,
-            state: state_at(plan, mask, start, 1, start),
-        },
-        Err(refused) => Answer {
-            number: refused.number(),
-            state: state_at(no_plan(), 0, 0, 0, 0),
-        },
-    }
+    check_opening(plan, mask, start)?;
+    Ok(state_at(plan, mask, start, 1, start))
 }
 
 // The refusal of a state for its plan or its register.
@@ -100,19 +92,11 @@ fn check_pass(state: FrameState) -> Result<(), Refusal>
     Ok(())
 }
 
-// Passes a dummy: the state one slot on, its register where it was, or the refusal and the state as it was.
+// Passes a dummy: the state one slot on, its register where it was, or the refusal.
 #[tactic(auto, using(refusal::specs::AnswerLaws::refused_not_0), unfolding(crate::specs::States::passed))]
-pub fn pass(state: FrameState) -> Answer
-    ensures { result ≡ passed state }
+pub fn pass(state: FrameState) -> Result<FrameState, Refusal>
+    ensures { as_answer state result ≡ passed state }
 {
-    match check_pass(state) {
-        Ok(()) => Answer {
-            number: 0,
-            state: advanced(state, state.register),
-        },
-        Err(refused) => Answer {
-            number: refused.number(),
-            state,
-        },
-    }
+    check_pass(state)?;
+    Ok(advanced(state, state.register))
 }
