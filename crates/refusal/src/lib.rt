@@ -4,7 +4,7 @@
 ghost use Rattle.std.specs.Prelude.{◌≡◌};
 ghost use Rattle.refusal.specs.Answers.{number, number_of};
 
-// Why a call is refused.
+// Why a call is refused; a wrong parity comes with the lowest failing parity position.
 #[derive(Clone, Copy, Debug, PartialEq, Eq)]
 pub enum Refusal {
     Plan,
@@ -14,7 +14,7 @@ pub enum Refusal {
     Table,
     Register,
     Sync,
-    Parity,
+    Parity(u16),
     Bch,
     Tail,
     Label,
@@ -39,7 +39,7 @@ impl Refusal {
             Refusal::Table => 5,
             Refusal::Register => 6,
             Refusal::Sync => 7,
-            Refusal::Parity => 8,
+            Refusal::Parity(_) => 8,
             Refusal::Bch => 9,
             Refusal::Tail => 11,
             Refusal::Label => 12,
