@@ -1,6 +1,7 @@
 -- Laws of what a call answers: where it refuses, and where it accepts.
 use Rattle.std.specs.Prelude.{◌≡◌, List, ℕ, false, eqb}
 use Rattle.std.proofs.Common.{refl, sym, ◌∙◌, eq-eqb, ne_eqb}
+use Rattle.std.proofs.lemmas.Bool.{false≢true}
 use Rattle.lists.specs.Choice.{and_then}
 use Rattle.refusal.specs.Answers.{Answered, number_of}
 use Rattle.refusal.specs.declared.Refusal.{Refusal}
@@ -31,6 +32,9 @@ refused_not_0 Total = refl
 refused_not_0 Packet = refl
 refused_not_0 Block = refl
 refused_not_0 Coordinate = refl
+
+pub refused_some : (r : Refusal) → number_of r ≡ 0 → ⊥
+refused_some r e = false≢true (sym (refused_not_0 r) ∙ eq-eqb _ 0 e)
 
 -- what is asked behind a refusal does not count
 pub refused_first : (r : Refusal) (next : ℕ) → and_then (number_of r) next ≡ number_of r
