@@ -36,6 +36,10 @@ refused_not_0 Coordinate = refl
 pub refused_some : (r : Refusal) → number_of r ≡ 0 → ⊥
 refused_some r e = false≢true (sym (refused_not_0 r) ∙ eq-eqb _ 0 e)
 
+-- a refusal is the call's, and leaves the area
+pub refused_by : {A : Type 0} (n : ℕ) (right found : List A) (r : Refusal) → number_of r ≡ n → Answered n right found (number_of r) found
+refused_by n right found r e = refused n right found (number_of r) e (refused_some r)
+
 -- what is asked behind a refusal does not count
 pub refused_first : (r : Refusal) (next : ℕ) → and_then (number_of r) next ≡ number_of r
 refused_first r next = rw (refused_not_0 r)
