@@ -6,7 +6,7 @@ mod calls;
 mod sources;
 mod tables;
 
-pub use calls::frame_number;
+pub use calls::check_frame;
 pub use sources::{slot_octets, source_length};
 
 // The slots of a frame.
