@@ -8,6 +8,7 @@ mod tables;
 
 pub use calls::check_frame;
 pub use sources::{slot_octets, source_length};
+pub use tables::table_of;
 
 // The slots of a frame.
 pub const SLOTS: usize = 120;

@@ -1,10 +1,19 @@
 // The groups' parity tables, end to end.
-ghost use Rattle.std.specs.Prelude.{◌≡◌, is_some, IfSome};
+ghost use Rattle.std.specs.Prelude.{◌≡◌, ◌+◌, is_some, IfSome, get_or};
+ghost use Rattle.lists.specs.Parts.{part};
 ghost use Rattle.plan.specs.Plans.{plan_number};
 ghost use Rattle.frame.specs.Tables.{tables_ok};
-ghost use Rattle.frame.specs.Needs.{Ends};
+ghost use Rattle.frame.specs.Needs.{Ends, Within};
 
 use plan::Plan;
+
+// The table of a group, which lies between two ends.
+pub fn table_of<'a>(tables: &'a [u16], ends: &[usize; 9], group: usize) -> &'a [u16]
+    requires { Within tables.now ends.now group }
+    ensures { result.now ≡ part (get_or ends.now group 0) (get_or ends.now (group + 1) 0) tables.now }
+{
+    &tables[ends[group]..ends[group + 1]]
+}
 
 // Where each group's table begins and, behind them, where the last one ends; none unless each group has an accepted table and
 // nothing follows.
