@@ -17,10 +17,8 @@ fn divide_octets(table: &[u64; 768], octets: &[u8]) -> Words
     ensures { worth result ≡ remainder_of 192 generator (bits_of octets.now) }
 {
     let mut rest = division::NONE;
-    let mut i: usize = 0;
-    while i < octets.len() {
-        rest = division::advance(table, rest, lists::wide(octets[i]));
-        i += 1;
+    for octet in octets {
+        rest = division::advance(table, rest, u64::from(*octet));
     }
     rest
 }
@@ -31,12 +29,10 @@ fn divide_bits(table: &[u64; 768], run: &[u8]) -> Words
     requires { Divided table.now run.now }
     ensures { worth result ≡ remainder_of 192 generator run.now }
 {
-    let mut at = run.len() % 8;
-    let mut rest = division::advance(table, division::NONE, bits::gather(&run[0..at]));
-    while at < run.len() {
-        let end = at + 8;
-        rest = division::advance(table, rest, bits::gather(&run[at..end]));
-        at = end;
+    let (few, eights) = run.split_at(run.len() % 8);
+    let mut rest = division::advance(table, division::NONE, bits::gather(few));
+    for eight in eights.chunks_exact(8) {
+        rest = division::advance(table, rest, bits::gather(eight));
     }
     rest
 }
