@@ -11,11 +11,9 @@ pub fn fill_masks(width: u32, mask: u32, masks: &mut [u32])
 {
     let taps = mask % (1u32 << width);
     let mut next = taps;
-    let mut k: usize = 0;
-    while k < masks.len() {
-        masks[k] = next;
+    for place in masks.iter_mut() {
+        *place = next;
         next = (next >> 1) ^ (next % 2 * taps);
-        k += 1;
     }
 }
 
@@ -25,10 +23,8 @@ pub fn jump(width: u32, masks: &[u32; 8], register: u32) -> u32
     ensures { result ≡ (register * 2 ^ 8 + feedback masks.now register 8) % 2 ^ width }
 {
     let mut fed: u32 = 0;
-    let mut k: usize = 0;
-    while k < 8 {
-        fed = (fed << 1) | (u32::count_ones(register & masks[k]) % 2);
-        k += 1;
+    for mask in masks {
+        fed = (fed << 1) | ((register & *mask).count_ones() % 2);
     }
     let low = (1u32 << width) - 1;
     ((register << 8) | fed) & low

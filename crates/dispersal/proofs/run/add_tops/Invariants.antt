@@ -7,6 +7,3 @@ use Rattle.dispersal.proofs.run.add_tops.Given as goal
 
 abbrev pub invariant-loop-k : goal.invariant-loop-k
 invariant-loop-k l = Filling (added l.initial.run (digits 8 (l.register / 2 ^ (l.width - 8)))) l.initial.run l.k l.run
-
-abbrev pub decreases-loop-k : goal.decreases-loop-k
-decreases-loop-k l = 8 - l.k

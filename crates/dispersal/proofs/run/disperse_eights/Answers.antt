@@ -5,7 +5,6 @@ use mathlib.Core.List.{List}
 use Prim.Native.Nat.{ℕ, ◌+◌, ◌-◌, ◌*◌, ◌/◌, ◌%◌, ◌^◌, ◌≤◌}
 use native.Mathlib.Omega.{arith}
 use lib.ListN.{length, take}
-use borrow.Author.Rules.{rules}
 use Rattle.lists.specs.FillingLaws.{filling_none, filling_rest, filling_part, filling_all}
 use Rattle.lists.specs.PartLaws.{length_part}
 use Rattle.bits.specs.Digits.{digits}
@@ -17,11 +16,10 @@ use Rattle.dispersal.specs.Eights.{feedback}
 use Rattle.dispersal.specs.EightLaws.{after_fed, dispersed_eight}
 use Rattle.dispersal.proofs.run.disperse_eights.Goals as goal
 
-pub loop-at-init : goal.loop-at-init
-loop-at-init c =
+pub loop-i-init : goal.loop-i-init
+loop-i-init c =
     let a = c.args in
     record {
-      whole = search rules;
       small = c.requires.masked.small;
       reached = sym (after_none a.width a.mask a.register);
       filling = filling_none _ _ (length_dispersed a.width a.mask a.register a.run.now);
@@ -29,42 +27,41 @@ loop-at-init c =
 
 pub add_tops-requires : goal.add_tops-requires
 add_tops-requires c =
-    let l = c.loop-at in
+    let l = c.loop-i in
     let t = c.requires.masked in
-    record { low = t.low; high = t.high; small = l.invariant.small; eight = length_part l.at (l.at + 8) l.run (search rules) ∙ omega arith }
+    record { low = t.low; high = t.high; small = l.invariant.small; eight = length_part (8 * l.i) (8 * l.i + 8) l.run (omega arith) ∙ omega arith }
 
 pub jump-held-requires : goal.jump-held-requires
 jump-held-requires c =
-    let b = c in
-    let t = b.requires.masked in
-    record { low = search rules; high = t.high; small = search rules }
+    let t = c.requires.masked in
+    record { low = omega arith; high = t.high; small = omega arith }
 
-pub loop-at-preserved : goal.loop-at-preserved
-loop-at-preserved c =
-    let b = c in
-    let l = b.loop-at in
-    let s = b in
-    let a = s.args in
-    let t = s.requires.masked in
-    let h : l.at + 8 ≤ length a.run.now = search rules in
+pub loop-i-preserved : goal.loop-i-preserved
+loop-i-preserved c =
+    let l = c.loop-i in
+    let a = c.args in
+    let t = c.requires.masked in
+    let at = 8 * l.i in
+    let h : at + 8 ≤ length a.run.now = omega arith in
     let on =
     c.jump-held.ensures
     ∙ ap (λ (u : List ℕ). (l.held * 2 ^ 8 + feedback u l.held 8) % 2 ^ a.width) t.masks
     ∙ sym (after_fed a.width a.mask l.held 8 (omega arith) l.invariant.small) in
     let d =
     c.add_tops.ensures
-    ∙ ap₂ (λ (u : List ℕ) (r : ℕ). added (take (l.at + 8 - l.at) u) (digits 8 (r / 2 ^ (a.width - 8)))) (filling_rest _ _ l.at l.run l.invariant.filling) l.invariant.reached
-    ∙ sym (dispersed_eight a.width a.mask a.register l.at a.run.now t.low t.small h) in
-    record {
-      whole = search rules;
+    ∙ ap₂ (λ (u : List ℕ) (r : ℕ). added (take (at + 8 - at) u) (digits 8 (r / 2 ^ (a.width - 8)))) (filling_rest _ _ at l.run l.invariant.filling) l.invariant.reached
+    ∙ sym (dispersed_eight a.width a.mask a.register at a.run.now t.low t.small h) in
+    let e : 8 * (l.i + 1) ≡ at + 8 = omega arith in
+    rw e
+    (record {
       small = rw on (after_lt a.width a.mask l.held 8 l.invariant.small);
-      reached = on ∙ ap (λ (r : ℕ). after a.width a.mask r 8) l.invariant.reached ∙ sym (after_add a.width a.mask a.register l.at 8);
-      filling = filling_part _ _ l.at l.run l.invariant.filling (l.at + 8) _ (search rules) h d;
-    }
+      reached = on ∙ ap (λ (r : ℕ). after a.width a.mask r 8) l.invariant.reached ∙ sym (after_add a.width a.mask a.register at 8);
+      filling = filling_part _ _ at l.run l.invariant.filling (at + 8) _ (omega arith) h d;
+    })
 
 pub returns : goal.returns
 returns c =
-    let l = c.loop-at in
+    let l = c.loop-i in
     let a = c.args in
-    let e : l.at ≡ length a.run.now = omega arith in
-    record { value = l.invariant.reached ∙ ap (after a.width a.mask a.register) e; run_after = filling_all _ _ l.at l.run l.invariant.filling (search rules) }
+    let e : 8 * l.i ≡ length a.run.now = omega (arith, c.requires.whole) in
+    record { value = l.invariant.reached ∙ ap (after a.width a.mask a.register) e; run_after = filling_all _ _ (8 * l.i) l.run l.invariant.filling (omega arith) }
