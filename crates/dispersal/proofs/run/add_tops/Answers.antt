@@ -6,7 +6,6 @@ use lib.ListN.{length}
 use Rattle.lists.specs.FillingLaws.{filling_none, filling_here, filling_more}
 use Rattle.bits.specs.Digits.{digits}
 use Rattle.bits.specs.SumLaws.{length_added, get_or_added}
-use Rattle.bits.proofs.Turns.{lowest_of_both}
 use Rattle.dispersal.specs.EightLaws.{digit_at_law}
 use Rattle.dispersal.proofs.run.add_tops.Goals as goal
 
@@ -19,7 +18,7 @@ loop-k-preserved c =
     let a = c.args in
     let tops = a.register / 2 ^ (a.width - 8) in
     let h : l.k < length a.run.now = omega arith in
-    let x = filling_here _ _ l.k l.run l.invariant in
+    let x = c.from.ensures ∙ filling_here _ _ l.k l.run l.invariant in
     let y = c.bit_of.ensures ∙ sym (digit_at_law 8 tops l.k (omega arith)) in
     filling_more _ _ l.k l.run l.invariant _ h
-    (lowest_of_both _ _ ∙ ap₂ (λ (p q : ℕ). (p + q) % 2) x y ∙ sym (get_or_added a.run.now (digits 8 tops) l.k h))
+    (ap₂ (λ (p q : ℕ). (p + q) % 2) x y ∙ sym (get_or_added a.run.now (digits 8 tops) l.k h))
