@@ -1,4 +1,4 @@
--- `dispersal::run::add_tops`: the area is filled with the sums, each bit read before it is replaced.
+-- `dispersal::eights::EightSteps::add_tops`: the area is filled with the sums, each bit read before it is replaced.
 use mathlib.Core.Path.{sym, ap₂, ◌∙◌}
 use Prim.Native.Nat.{ℕ, ◌+◌, ◌-◌, ◌/◌, ◌%◌, ◌^◌, ◌<◌}
 use native.Mathlib.Omega.{arith}
@@ -7,7 +7,7 @@ use Rattle.lists.specs.FillingLaws.{filling_none, filling_here, filling_more}
 use Rattle.bits.specs.Digits.{digits}
 use Rattle.bits.specs.SumLaws.{length_added, get_or_added}
 use Rattle.dispersal.specs.EightLaws.{digit_at_law}
-use Rattle.dispersal.proofs.run.add_tops.Goals as goal
+use Rattle.dispersal.proofs.eights.EightSteps.add_tops.Goals as goal
 
 pub loop-k-init : goal.loop-k-init
 loop-k-init c = filling_none _ _ (length_added _ _)
@@ -16,7 +16,7 @@ pub loop-k-preserved : goal.loop-k-preserved
 loop-k-preserved c =
     let l = c.loop-k in
     let a = c.args in
-    let tops = a.register / 2 ^ (a.width - 8) in
+    let tops = a.register / 2 ^ (a.self.now.width - 8) in
     let h : l.k < length a.run.now = omega arith in
     let x = c.from.ensures ∙ filling_here _ _ l.k l.run l.invariant in
     let y = c.bit_of.ensures ∙ sym (digit_at_law 8 tops l.k (omega arith)) in

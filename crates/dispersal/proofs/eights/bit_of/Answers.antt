@@ -1,4 +1,4 @@
--- `dispersal::run::bit_of`: what the weight leaves of the bits is 0 exactly where the bit is.
+-- `dispersal::eights::bit_of`: what the weight leaves of the bits is 0 exactly where the bit is.
 use mathlib.Core.Path.{◌≡◌, ap, ◌∙◌}
 use mathlib.Core.Bool.{not}
 use Prim.Native.Nat.{ℕ, zero, suc, ◌+◌, ◌-◌, ◌*◌, ◌/◌, ◌%◌, ◌^◌, ◌<◌}
@@ -9,7 +9,7 @@ use lib.Dec.{eqb}
 use lib.Pow.{pow-add, pow_pos, shl-shr}
 use borrow.Author.Tests.{eq-eqb, ne_eqb}
 use mir.Val.{bool_byte}
-use Rattle.dispersal.proofs.run.bit_of.Goals as goal
+use Rattle.dispersal.proofs.eights.bit_of.Goals as goal
 
 -- the weight of a bit
 weight : (k : ℕ) → k < 8 → 128 / 2 ^ k ≡ 2 ^ (7 - k)

@@ -1,7 +1,0 @@
--- `dispersal::eights::jump`: what is fed in are the feedback bits of the steps so far.
-use mathlib.Core.Path.{◌≡◌}
-use Rattle.dispersal.specs.Eights.{feedback}
-use Rattle.dispersal.proofs.eights.jump.Given as goal
-
-abbrev pub invariant-loop-mask : goal.invariant-loop-mask
-invariant-loop-mask l = l.fed ≡ feedback l.masks l.register l.mask-index
