@@ -1,11 +1,11 @@
 -- One turn of the loops that do not fill an area from the front.
-use mathlib.Core.Path.{◌≡◌, refl, sym, ◌∙◌}
+use mathlib.Core.Path.{◌≡◌, refl, sym, ap, ap₂, ◌∙◌}
 use mathlib.Core.List.{List, [], ◌∷◌, ◌++◌, append-nil}
 use Prim.Native.Nat.{ℕ, suc, ◌+◌, ◌*◌, ◌-◌, ◌/◌, ◌%◌, ◌<◌, ◌≤◌}
 use native.Mathlib.Numerals.{add-one}
 use native.Mathlib.Omega.{arith}
-use lib.ListN.{length, get_or, take, drop, set}
-use lib.Seq.{drop-length, set_split, drop_at, length-take-le, append_snoc}
+use lib.ListN.{length, length-append, length-drop, get_or, take, drop, set}
+use lib.Seq.{drop-drop, take_at, drop-length, set_split, drop_at, length-take-le, append_snoc}
 use lib.Dec.{eqb}
 use lib.Pointwise.{pointwise}
 use Rattle.std.specs.Int.Bits.{bit_and, bit_xor, xor_add_and}
@@ -43,11 +43,30 @@ expand_turn octets ys i x n h v e d =
     let w : 8 * i + 8 - 8 * i ≡ 8 = omega arith in
     rw (w, d, e, v) (sym (bits_of_at octets i h))
 
+-- the eight that are given out next where what is left of u begins at 8 * k
+pub record Next (u eight left : List ℕ) (k : ℕ) : Type 0 where
+  pub within : 8 * k + 8 ≤ length u
+  pub is : eight ≡ part (8 * k) (8 * k + 8) u
+  pub long : length eight ≡ 8
+  pub behind : left ≡ drop (8 * (k + 1)) u
+
+pub next_eight : (u rest eight left : List ℕ) (k n : ℕ) → rest ≡ drop (8 * k) u → rest ≡ eight ++ left → length eight ≡ n → n ≡ 8 → Next u eight left k
+next_eight u rest eight left k n d e l z =
+    let w : 8 * k + 8 - 8 * k ≡ 8 = omega arith in
+    let m : 8 * (k + 1) ≡ 8 * k + 8 = omega arith in
+    let h : drop (8 * k) u ≡ eight ++ left = sym d ∙ e in
+    record {
+      within = omega (arith, length-drop (8 * k) u, length-append eight left, ap length h);
+      is = rw (w, h) (sym (take_at eight left 8 (l ∙ z)));
+      long = l ∙ z;
+      behind = rw (m, ← drop-drop 8 (8 * k) u, h) (sym (drop_at eight left 8 (l ∙ z)));
+    }
+
 -- octet i of the bits, from the eight that gather was lent
-pub collect_turn : (u : List ℕ) (n i x k : ℕ) → i < n → k ≡ 8 → x ≡ number k (part (8 * i) (8 * i + 8) u) → x ≡ get_or (octets_of n u) i 0
-collect_turn u n i x k h e d =
+pub collect_turn : (u eight left : List ℕ) (n i x : ℕ) → Next u eight left i → i < n → x ≡ number (length eight) eight → x ≡ get_or (octets_of n u) i 0
+collect_turn u eight left n i x t h d =
     let w : 8 * i + 8 - 8 * i ≡ 8 = omega arith in
-    d ∙ rw (w, e) (number_take 8 8 (drop (8 * i) u) (omega arith) ∙ sym (octets_of_at n u i h))
+    d ∙ ap₂ number t.long t.is ∙ rw w (number_take 8 8 (drop (8 * i) u) (omega arith) ∙ sym (octets_of_at n u i h))
 
 -- the sum of two numbers modulo 2, reckoned bit by bit
 pub lowest_of_both : (a b : ℕ) → bit_and (bit_xor a b) 1 ≡ (a + b) % 2

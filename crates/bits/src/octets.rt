@@ -1,4 +1,5 @@
-// Numbers and octets as bits, highest first.
+// Numbers and octets as bits, highest first. Bits are stored by index: of what is written through iter_mut().rev() or
+// chunks_exact_mut a proof knows the length alone.
 ghost use Rattle.std.specs.Prelude.{◌≡◌, ◌*◌, length};
 ghost use Rattle.bits.specs.Digits.{digits, number};
 ghost use Rattle.bits.specs.Octets.{bits_of, octets_of};
@@ -42,7 +43,7 @@ pub fn collect(bits: &[u8], octets: &mut [u8])
     requires { Packed bits.now octets.old }
     ensures { octets.new ≡ octets_of (length octets.old) bits.now }
 {
-    for (i, octet) in octets.iter_mut().enumerate() {
-        *octet = gather(&bits[8 * i..8 * i + 8]) as u8;
+    for (i, eight) in bits.chunks_exact(8).enumerate() {
+        octets[i] = gather(eight) as u8;
     }
 }
