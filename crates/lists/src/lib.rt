@@ -22,8 +22,5 @@ pub fn index(x: u16) -> usize
 pub fn octet_at(octets: &[u8], at: usize) -> u8
     ensures { result ≡ get_or octets.now at 0 }
 {
-    if at < octets.len() {
-        return octets[at];
-    }
-    0
+    octets.get(at).copied().unwrap_or(0)
 }
