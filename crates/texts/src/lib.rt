@@ -27,16 +27,13 @@ pub fn put_decimal(out: &mut [u8], at: usize, n: usize) -> usize
     requires { Number n at out.old }
     ensures { Written (decimal n) at out.old out.new result }
 {
+    let units = digit(n % 10);
     if n < 10 {
-        put_text(out, at, &[digit(n)])
+        put_text(out, at, &[units])
     } else if n < 100 {
-        put_text(out, at, &[digit(n / 10), digit(n % 10)])
+        put_text(out, at, &[digit(n / 10), units])
     } else {
-        put_text(
-            out,
-            at,
-            &[digit(n / 100), digit(n / 10 % 10), digit(n % 10)],
-        )
+        put_text(out, at, &[digit(n / 100), digit(n / 10 % 10), units])
     }
 }
 
