@@ -41,42 +41,42 @@ pub data_slots-requires : goal.data_slots-requires
 data_slots-requires c = omega (arith, sizes c.args.plan c.args.g c.requires.plan c.requires.group)
 
 pub overflow_add-filled : goal.overflow_add-filled
-overflow_add-filled c = omega (arith, carried c.args.plan c.args.g c.args.passed c.index-slots.result c.data_slots.result (sizes c.args.plan c.args.g c.requires.plan c.requires.group) c.requires.before c.index-slots.ensures.0 c.data_slots.ensures)
+overflow_add-filled c = omega (arith, carried c.args.plan c.args.g c.args.passed c.from-slots.result c.data_slots.result (sizes c.args.plan c.args.g c.requires.plan c.requires.group) c.requires.before c.from-slots.ensures c.data_slots.ensures)
 
 pub overflow_add-end : goal.overflow_add-end
-overflow_add-end c = omega (arith, carried c.args.plan c.args.g c.args.passed c.index-slots.result c.data_slots.result (sizes c.args.plan c.args.g c.requires.plan c.requires.group) c.requires.before c.index-slots.ensures.0 c.data_slots.ensures)
+overflow_add-end c = omega (arith, carried c.args.plan c.args.g c.args.passed c.from-slots.result c.data_slots.result (sizes c.args.plan c.args.g c.requires.plan c.requires.group) c.requires.before c.from-slots.ensures c.data_slots.ensures)
 
 pub overflow_add-passed : goal.overflow_add-passed
-overflow_add-passed c = omega (arith, carried c.args.plan c.args.g c.args.passed c.index-slots.result c.data_slots.result (sizes c.args.plan c.args.g c.requires.plan c.requires.group) c.requires.before c.index-slots.ensures.0 c.data_slots.ensures)
+overflow_add-passed c = omega (arith, carried c.args.plan c.args.g c.args.passed c.from-slots.result c.data_slots.result (sizes c.args.plan c.args.g c.requires.plan c.requires.group) c.requires.before c.from-slots.ensures c.data_slots.ensures)
 
 pub write_run-next-requires : goal.write_run-next-requires
 write_run-next-requires c =
     let group : Sizes c.args.plan c.args.g = sizes c.args.plan c.args.g c.requires.plan c.requires.group in
-    let k = carried c.args.plan c.args.g c.args.passed c.index-slots.result c.data_slots.result group c.requires.before c.index-slots.ensures.0 c.data_slots.ensures in
+    let k = carried c.args.plan c.args.g c.args.passed c.from-slots.result c.data_slots.result group c.requires.before c.from-slots.ensures c.data_slots.ensures in
     let b = c in
     let s = b in
     let z = group in
     record {
       begins = omega (arith, k.2);
       ends = omega (arith, k.2, k.3);
-      modulation_small = omega (arith, z.modulation, b.index-modulation.ensures.0);
-      rate_small = omega (arith, z.rate, b.index-rate.ensures.0);
+      modulation_small = omega (arith, z.modulation, b.from-modulation.ensures);
+      rate_small = omega (arith, z.rate, b.from-rate.ensures);
       room = omega (arith, s.requires.room);
     }
 
 pub overflow_add-filled-2 : goal.overflow_add-filled-2
-overflow_add-filled-2 c = omega (arith, carried c.args.plan c.args.g c.args.passed c.index-slots.result c.data_slots.result (sizes c.args.plan c.args.g c.requires.plan c.requires.group) c.requires.before c.index-slots.ensures.0 c.data_slots.ensures)
+overflow_add-filled-2 c = omega (arith, carried c.args.plan c.args.g c.args.passed c.from-slots.result c.data_slots.result (sizes c.args.plan c.args.g c.requires.plan c.requires.group) c.requires.before c.from-slots.ensures c.data_slots.ensures)
 
 pub write_run-requires : goal.write_run-requires
 unfolding run_first run_last kind_word
 write_run-requires c =
     let group : Sizes c.args.plan c.args.g = sizes c.args.plan c.args.g c.requires.plan c.requires.group in
-    let k = carried c.args.plan c.args.g c.args.passed c.index-slots.result c.data_slots.result group c.requires.before c.index-slots.ensures.0 c.data_slots.ensures in
+    let k = carried c.args.plan c.args.g c.args.passed c.from-slots.result c.data_slots.result group c.requires.before c.from-slots.ensures c.data_slots.ensures in
     let data-run : (let s = c in Written (run_text s.args.plan s.args.g true) s.args.at s.args.out.now c.write_run-next.new.out c.write_run-next.result) =
     let b = c in
     let s = b in
     written_is
-    (run_is s.args.plan s.args.g true _ _ _ _ (ap (λ (n : ℕ). n + 1) s.requires.before) (ap₂ (λ (m n : ℕ). m + n) s.requires.before k.1) b.index-modulation.ensures.0 b.index-rate.ensures.0)
+    (run_is s.args.plan s.args.g true _ _ _ _ (ap (λ (n : ℕ). n + 1) s.requires.before) (ap₂ (λ (m n : ℕ). m + n) s.requires.before k.1) b.from-modulation.ensures b.from-rate.ensures)
     c.write_run-next.ensures in
     let d = c in
     let b = d in
@@ -86,8 +86,8 @@ write_run-requires c =
     record {
       begins = omega (arith, k.2, k.3);
       ends = omega (arith, k.2);
-      modulation_small = omega (arith, z.modulation, b.index-modulation.ensures.0);
-      rate_small = omega (arith, z.rate, b.index-rate.ensures.0);
+      modulation_small = omega (arith, z.modulation, b.from-modulation.ensures);
+      rate_small = omega (arith, z.rate, b.from-rate.ensures);
       room = omega (arith, s.requires.room, w.reached, w.same, length_run_text s.args.plan s.args.g true);
     }
 
@@ -95,12 +95,12 @@ pub returns : goal.returns
 unfolding group_text run_first run_last kind_word
 returns c =
     let group : Sizes c.args.plan c.args.g = sizes c.args.plan c.args.g c.requires.plan c.requires.group in
-    let k = carried c.args.plan c.args.g c.args.passed c.index-slots.result c.data_slots.result group c.requires.before c.index-slots.ensures.0 c.data_slots.ensures in
+    let k = carried c.args.plan c.args.g c.args.passed c.from-slots.result c.data_slots.result group c.requires.before c.from-slots.ensures c.data_slots.ensures in
     let data-run : (let s = c in Written (run_text s.args.plan s.args.g true) s.args.at s.args.out.now c.write_run-next.new.out c.write_run-next.result) =
     let b = c in
     let s = b in
     written_is
-    (run_is s.args.plan s.args.g true _ _ _ _ (ap (λ (n : ℕ). n + 1) s.requires.before) (ap₂ (λ (m n : ℕ). m + n) s.requires.before k.1) b.index-modulation.ensures.0 b.index-rate.ensures.0)
+    (run_is s.args.plan s.args.g true _ _ _ _ (ap (λ (n : ℕ). n + 1) s.requires.before) (ap₂ (λ (m n : ℕ). m + n) s.requires.before k.1) b.from-modulation.ensures b.from-rate.ensures)
     c.write_run-next.ensures in
     let y = c in
     let d = y in
@@ -109,4 +109,4 @@ returns c =
     let e = ap₂ (λ (m n : ℕ). m + n) s.requires.before k.1 in
     let f = ap₂ (λ (m n : ℕ). m + n) s.requires.before k.0 ∙ sym (before_more s.args.plan s.args.g) in
     written_then (search rules) (data-run)
-    (written_is (run_is s.args.plan s.args.g false _ _ _ _ (ap (λ (n : ℕ). n + 1) e) f b.index-modulation.ensures.0 b.index-rate.ensures.0) y.write_run.ensures)
+    (written_is (run_is s.args.plan s.args.g false _ _ _ _ (ap (λ (n : ℕ). n + 1) e) f b.from-modulation.ensures b.from-rate.ensures) y.write_run.ensures)
