@@ -1,5 +1,5 @@
 -- The list that plan-list prints (document 01, "Worked by hand").
-use Rattle.std.specs.Prelude.{Bool, true, false, List, [], ◌∷◌, ◌++◌, ℕ, ◌-◌, eqb, leb, length}
+use Rattle.std.specs.Prelude.{Bool, true, false, List, [], ◌∷◌, ◌++◌, ℕ, ◌-◌, eqb, leb}
 use Rattle.lists.specs.Choice.{pick}
 use Rattle.lists.specs.Count.{sum, joined}
 use Rattle.plan.specs.declared.Plan.{Plan}

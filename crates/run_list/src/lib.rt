@@ -41,6 +41,7 @@ fn write_run(
 }
 
 // The lines of group g, before which the groups passed have their slots.
+#[tactic(auto, using(crate::proofs::Sizes::sizes))]
 fn write_group(out: &mut [u8], at: usize, plan: Plan, g: usize, passed: usize) -> usize
     requires { GroupLines plan g passed at out.old }
     ensures { Written (group_text plan g) at out.old out.new result }
@@ -54,6 +55,7 @@ fn write_group(out: &mut [u8], at: usize, plan: Plan, g: usize, passed: usize) -
     write_run(out, next, filled + 1, end, modulation, rate, b"dummy\n")
 }
 
+#[tactic(auto, using(crate::proofs::Sizes::sizes))]
 fn write_groups(out: &mut [u8], at: usize, plan: Plan) -> usize
     requires { PlanLines plan at out.old }
     ensures { Written (joined plan.count (group_text plan)) at out.old out.new result }

@@ -1,5 +1,5 @@
 -- `run_list::answer`: what was read decides between the list and the refusal.
-use Rattle.std.proofs.Common.{◌≡◌, sym, ap, ◌∙◌, ℕ, ◌≤◌, List, length, arith, rules, Result, Ok, Err, length-take-le}
+use Rattle.std.proofs.Common.{◌≡◌, sym, ap, ◌∙◌, ℕ, ◌≤◌, List, length, arith, rules, Ok, Err, length-take-le}
 use Rattle.lists.specs.Parts.{put}
 use Rattle.lists.specs.ChoiceLaws.{then_zero}
 use Rattle.refusal.specs.Answers.{number_of}

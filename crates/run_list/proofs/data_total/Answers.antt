@@ -1,9 +1,8 @@
 -- `run_list::data_total`: the data slots of the groups passed.
-use Rattle.std.proofs.Common.{◌≡◌, ap, ◌∙◌, ℕ, arith, rules}
+use Rattle.std.proofs.Common.{◌≡◌, ap, ◌∙◌, ℕ, arith}
 use Rattle.lists.specs.Count.{sum}
 use Rattle.lists.specs.CountLaws.{sum_none, sum_more}
 use Rattle.plan.specs.Plans.{data_slots_of}
-use Rattle.plan.proofs.PlanLaws.{accepted}
 use Rattle.run_list.specs.Listing.{data_total}
 use Rattle.run_list.proofs.Sizes.{sizes}
 use Rattle.run_list.proofs.data_total.Goals as goal
@@ -12,9 +11,7 @@ pub loop-g-init : goal.loop-g-init
 loop-g-init c = record { few = omega arith; passed = grind (arith, sum_none) }
 
 pub data_slots-sum-requires : goal.data_slots-sum-requires
-data_slots-sum-requires c =
-    let s = sizes c.args.plan c.loop-g.g c.requires (grind arith) in
-    omega (arith, s.few)
+data_slots-sum-requires c = let s = sizes c.args.plan c.loop-g.g c.requires (grind arith) in omega (arith, s.few)
 
 pub overflow_add-sum : goal.overflow_add-sum
 overflow_add-sum c =

@@ -1,8 +1,8 @@
 -- `run_list::write_groups`: the lines of the groups passed are written.
-use Rattle.std.proofs.Common.{◌≡◌, sym, ap, ℕ, arith, rules}
+use Rattle.std.proofs.Common.{◌≡◌, sym, ap, ℕ, arith}
 use Rattle.lists.specs.Count.{joined}
 use Rattle.lists.specs.CountLaws.{joined_none, joined_more}
-use Rattle.plan.proofs.PlanLaws.{accepted, before_none, before_more}
+use Rattle.plan.proofs.PlanLaws.{before_none, before_more}
 use Rattle.run_list.specs.Listing.{group_text}
 use Rattle.run_list.specs.ListingLaws.{length_groups}
 use Rattle.run_list.proofs.Sizes.{sizes}
@@ -26,16 +26,6 @@ write_group-next-requires c =
       before = c.loop-g.invariant.before;
       room = omega (arith, c.requires.room, w.reached, w.same, length_groups p g, s.few);
     }
-
-pub bounds-plan-g : goal.bounds-plan-g
-bounds-plan-g c =
-    let s = sizes c.args.plan c.loop-g.g c.requires.plan (grind arith) in
-    omega (arith, s.few)
-
-pub overflow_add-passed : goal.overflow_add-passed
-overflow_add-passed c =
-    let s = sizes c.args.plan c.loop-g.g c.requires.plan (grind arith) in
-    omega (arith, s.ends, c.from-passed.ensures)
 
 pub loop-g-preserved : goal.loop-g-preserved
 loop-g-preserved c =
