@@ -1,5 +1,4 @@
 pub mod Numerals
 pub mod NumeralLaws
 pub mod Words
-pub mod WordLaws
 pub mod Needs
