@@ -15,14 +15,8 @@ pub fn labels_of_slot(modulation: u32, rate: u32, slot: &[u8], labels: &mut [u8]
     if number != 0 {
         return number;
     }
-    let mut run = [0u8; plan::SLOT_BITS];
-    label_octets(
-        modulation as usize,
-        right_to_left(modulation, rate),
-        slot,
-        &mut run,
-        labels,
-    );
+    let leftward = right_to_left(modulation, rate);
+    label_octets::<{ plan::SLOT_BITS }>(modulation as usize, leftward, slot, labels);
     0
 }
 
@@ -34,14 +28,8 @@ pub fn slot_of_labels(modulation: u32, rate: u32, labels: &[u8], slot: &mut [u8]
     if number != 0 {
         return number;
     }
-    let mut run = [0u8; plan::SLOT_BITS];
-    unlabel_octets(
-        modulation as usize,
-        right_to_left(modulation, rate),
-        labels,
-        &mut run,
-        slot,
-    );
+    let leftward = right_to_left(modulation, rate);
+    unlabel_octets::<{ plan::SLOT_BITS }>(modulation as usize, leftward, labels, slot);
     0
 }
 
@@ -53,8 +41,7 @@ pub fn labels_of_block(block: &[u8], labels: &mut [u8]) -> u8
     if number != 0 {
         return number;
     }
-    let mut run = [0u8; plan::BLOCK_BITS];
-    label_octets(1, false, block, &mut run, labels);
+    label_octets::<{ plan::BLOCK_BITS }>(1, false, block, labels);
     0
 }
 
@@ -66,7 +53,6 @@ pub fn block_of_labels(labels: &[u8], block: &mut [u8]) -> u8
     if number != 0 {
         return number;
     }
-    let mut run = [0u8; plan::BLOCK_BITS];
-    unlabel_octets(1, false, labels, &mut run, block);
+    unlabel_octets::<{ plan::BLOCK_BITS }>(1, false, labels, block);
     0
 }

@@ -6,13 +6,10 @@ ghost use Rattle.symbols.specs.Labels.{length_number, label_number, slot_number,
 fn length_number(n: usize, s: usize, octets: usize, labels: usize) -> u8
     ensures { result ≡ length_number n s octets labels }
 {
-    if octets != n {
-        return refusal::LENGTH;
+    if octets == n && labels == s {
+        return 0;
     }
-    if labels != s {
-        return refusal::LENGTH;
-    }
-    0
+    refusal::LENGTH
 }
 
 // The refusal of a label that has more bits than the modulation, or 0.
@@ -21,29 +18,19 @@ pub fn label_number(modulation: usize, labels: &[u8]) -> u8
     ensures { result ≡ label_number modulation labels.now }
 {
     let limit = 1u64 << modulation;
-    let mut r: usize = 0;
-    while r < labels.len() {
-        if limit <= lists::wide(labels[r]) {
-            return refusal::LABEL;
-        }
-        r += 1;
+    if labels.iter().all(|label| u64::from(*label) < limit) {
+        return 0;
     }
-    0
+    refusal::LABEL
 }
 
 // What both slot calls test: modulation and rate, then the lengths.
 pub fn slot_number(modulation: u32, rate: u32, octets: usize, labels: usize) -> u8
     ensures { result ≡ slot_number modulation rate octets labels }
 {
-    if plan::known(modulation, plan::MODULATIONS) {
-        if plan::known(rate, plan::RATES) {
-            return length_number(
-                plan::SLOT_OCTETS,
-                plan::SLOT_BITS / modulation as usize,
-                octets,
-                labels,
-            );
-        }
+    if plan::known(modulation, plan::MODULATIONS) && plan::known(rate, plan::RATES) {
+        let symbols = plan::SLOT_BITS / modulation as usize;
+        return length_number(plan::SLOT_OCTETS, symbols, octets, labels);
     }
     refusal::PLAN
 }

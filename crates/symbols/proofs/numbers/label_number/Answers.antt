@@ -1,42 +1,25 @@
--- `symbols::label_number`: the labels passed are below the limit.
-use mathlib.Core.Path.{◌≡◌, sym, ap, ◌∙◌}
-use mathlib.Core.Bool.{true, false}
-use Prim.Native.Nat.{ℕ, ◌-◌, ◌^◌}
-use native.Mathlib.Omega.{arith}
-use lib.ListN.{length, get_or}
+-- `symbols::label_number`: the labels decide, one by one.
+use mathlib.Core.Path.{◌∙◌}
+use Prim.Native.Nat.{◌*◌, ◌%◌, ◌^◌}
+use lib.Dec.{ltb}
 use borrow.Author.Rules.{rules}
-use borrow.Author.Tests.{lt-ltb, le-ltb}
-use Rattle.lists.specs.Count.{every}
-use Rattle.lists.specs.CountLaws.{every_none, every_next, every_not}
+use borrow.Author.Tests.{tests}
+use Rattle.std.proofs.lemmas.Iterator.{YieldsList-from_slice}
 use Rattle.symbols.specs.Labels.{label_number}
 use Rattle.symbols.specs.LabelLaws.{one_shifted}
-use Rattle.symbols.proofs.numbers.label_number.Invariants.{fits}
+use Rattle.symbols.proofs.Tests.{every_from_all}
 use Rattle.symbols.proofs.numbers.label_number.Goals as goal
 
-pub loop-r-init : goal.loop-r-init
-loop-r-init c = record { passed = search rules; power = one_shifted c.args.modulation c.requires; right = every_none _ }
-
-pub returns-then-limit-wide : goal.returns-then-limit-wide
+pub returns-then-all : goal.returns-then-all
 unfolding label_number
-returns-then-limit-wide c =
-    let l = c.loop-r in
-    let a = c.args in
-    let u = a.labels.now in
-    let f : fits a.modulation u l.r ≡ false = le-ltb (get_or u l.r 0) (2 ^ a.modulation) (omega (arith, l.invariant.power, c.wide.ensures.0, c.if-limit-wide.true)) in
-    rw (every_not (length u) (fits a.modulation u) l.r (search rules) f)
-
-pub loop-r-preserved : goal.loop-r-preserved
-loop-r-preserved c =
-    let l = c.loop-r in
-    let a = c.args in
-    let u = a.labels.now in
-    let f : fits a.modulation u l.r ≡ true = lt-ltb (get_or u l.r 0) (2 ^ a.modulation) (omega (arith, l.invariant.power, c.wide.ensures.0, c.if-limit-wide.false)) in
-    record { passed = search rules; power = l.invariant.power; right = every_next l.r (fits a.modulation u) l.invariant.right f }
+returns-then-all c =
+    let m = c.args.modulation in
+    let fit = every_from_all _ _ _ (λ x. ltb x (1 * 2 ^ m % 2 ^ 64)) c.all.ensures.ran (YieldsList-from_slice c.args.labels.now cc) (λ x q k. search (rules, tests)) (λ x q k. search (rules, tests)) in
+    rw (← one_shifted m c.requires) (rw (fit ∙ c.if-all.true))
 
 pub returns : goal.returns
 unfolding label_number
 returns c =
-    let l = c.loop-r in
-    let a = c.args in
-    let e : l.r ≡ length a.labels.now = omega arith in
-    rw (ap (λ (n : ℕ). every n (fits a.modulation a.labels.now)) (sym e) ∙ l.invariant.right)
+    let m = c.args.modulation in
+    let fit = every_from_all _ _ _ (λ x. ltb x (1 * 2 ^ m % 2 ^ 64)) c.all.ensures.ran (YieldsList-from_slice c.args.labels.now cc) (λ x q k. search (rules, tests)) (λ x q k. search (rules, tests)) in
+    rw (← one_shifted m c.requires) (rw (fit ∙ c.if-all.false))

@@ -21,11 +21,11 @@ pub returns-then-leftward : goal.returns-then-leftward
 unfolding bit_at
 returns-then-leftward c = rw (lt-leb c.args.modulation 2 c.if-modulation-le2.false, c.if-leftward.true) (omega arith)
 
-pub overflow_mul-result-2 : goal.overflow_mul-result-2
-overflow_mul-result-2 c =
+pub overflow_mul-result-else-leftward : goal.overflow_mul-result-else-leftward
+overflow_mul-result-else-leftward c =
     let s = c in
     omega (arith, column_small s.args.place s.args.symbols (search rules) s.requires.few)
 
-pub returns : goal.returns
+pub returns-else-leftward : goal.returns-else-leftward
 unfolding bit_at
-returns c = rw (lt-leb c.args.modulation 2 c.if-modulation-le2.false, c.if-leftward.false) (omega arith)
+returns-else-leftward c = rw (lt-leb c.args.modulation 2 c.if-modulation-le2.false, c.if-leftward.false) (omega arith)

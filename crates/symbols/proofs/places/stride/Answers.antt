@@ -7,6 +7,6 @@ pub returns-then-modulation-le2 : goal.returns-then-modulation-le2
 unfolding stride_of
 returns-then-modulation-le2 c = rw (le-leb c.args.modulation 2 c.if-modulation-le2.true)
 
-pub returns : goal.returns
+pub returns-else-modulation-le2 : goal.returns-else-modulation-le2
 unfolding stride_of
-returns c = rw (lt-leb c.args.modulation 2 c.if-modulation-le2.false)
+returns-else-modulation-le2 c = rw (lt-leb c.args.modulation 2 c.if-modulation-le2.false)
