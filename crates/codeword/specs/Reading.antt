@@ -1,9 +1,12 @@
 -- A received word, read (document 01, "Refusal list"): 8 and 9 in this order; the tail is handed out, and with 8 the lowest
 -- failing parity position (document 02, N7).
-use Rattle.std.specs.Prelude.{◌≡◌, Bool, List, ◌++◌, ◌⊎◌, ℕ, ◌+◌, ◌%◌, ◌<◌, eqb, get_or, take, drop}
+use Rattle.std.specs.Prelude.{◌≡◌, Bool, List, ◌++◌, ◌⊎◌, ℕ, ◌+◌, ◌%◌, ◌<◌, eqb, get_or, take, drop, Result, Ok, Err}
 use Rattle.lists.specs.Choice.{pick, and_then}
 use Rattle.lists.specs.Parts.{part}
 use Rattle.refusal.specs.Numbers.{PARITY, BCH}
+use Rattle.refusal.specs.Answers.{number}
+use Rattle.refusal.specs.declared.Refusal.{Refusal}
+use Rattle.refusal.specs.declared.Refusal.TheVariants.{Plan, Dummy, Full, Length, Table, Register, Sync, Parity, Bch, Tail, Label, Value, Order, Total, Packet, Block, Coordinate}
 use Rattle.bits.specs.Octets.{bits_of, octets_of}
 use Rattle.bits.specs.Same.{same}
 use Rattle.bits.specs.Sums.{added}
@@ -57,6 +60,33 @@ position_with n p = pick (eqb n PARITY) p no_position
 -- an answer of both
 abbrev pub word_answer : ℕ → ℕ → WordAnswer
 word_answer n p = record { number = n; position = position_with n p }
+
+-- the same of what a call answers: the position that comes with its refusal
+abbrev pub position_of : Refusal → ℕ
+position_of (Parity p) = p
+position_of Plan = no_position
+position_of Dummy = no_position
+position_of Full = no_position
+position_of Length = no_position
+position_of Table = no_position
+position_of Register = no_position
+position_of Sync = no_position
+position_of Bch = no_position
+position_of Tail = no_position
+position_of Label = no_position
+position_of Value = no_position
+position_of Order = no_position
+position_of Total = no_position
+position_of Packet = no_position
+position_of Block = no_position
+position_of Coordinate = no_position
+
+abbrev pub position : {A : Type 0} → Result A Refusal → ℕ
+position (Ok x) = no_position
+position (Err r) = position_of r
+
+abbrev pub as_word_answer : {A : Type 0} → Result A Refusal → WordAnswer
+as_word_answer r = record { number = number r; position = position r }
 
 -- 9: "BCH bits wrong after dispersal is taken off"
 unfoldable pub bch_right : Shape → List ℕ → Bool

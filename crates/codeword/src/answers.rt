@@ -1,16 +1,35 @@
 // What is told beside the number of a received word.
-ghost use Rattle.std.specs.Prelude.{◌≡◌, ◌<◌};
-ghost use Rattle.codeword.specs.Reading.{position_with};
+ghost use Rattle.std.specs.Prelude.{◌≡◌};
+ghost use Rattle.codeword.specs.Reading.{as_word_answer, position_of};
 
-use crate::NO_POSITION;
+use crate::{NO_POSITION, WordAnswer};
+use refusal::Refusal;
 
-// The lowest wrong position where the number is the parity's refusal, and that there is none where it is another.
-pub fn position_with(number: u8, wrong: usize) -> u16
-    requires { wrong < 65536 }
-    ensures { result ≡ position_with number wrong }
+// The lowest failing parity position where a word is refused for its parity, and that there is none where it is for another
+// reason.
+pub fn position_of(refused: Refusal) -> u16
+    ensures { result ≡ position_of refused }
 {
-    if number == refusal::PARITY {
-        return wrong as u16;
+    match refused {
+        Refusal::Parity(position) => position,
+        _ => NO_POSITION,
     }
-    NO_POSITION
+}
+
+impl WordAnswer {
+    // Number and position of what a call answers.
+    pub fn new(answer: Result<(), Refusal>) -> WordAnswer
+        ensures { result ≡ as_word_answer answer }
+    {
+        match answer {
+            Ok(()) => WordAnswer {
+                number: 0,
+                position: NO_POSITION,
+            },
+            Err(refused) => WordAnswer {
+                number: refused.number(),
+                position: position_of(refused),
+            },
+        }
+    }
 }

@@ -1,23 +1,29 @@
 // What a call on a codeword tests of what it is lent.
 ghost use Rattle.std.specs.Prelude.{◌≡◌};
+ghost use Rattle.refusal.specs.Answers.{number};
 ghost use Rattle.codeword.specs.Calls.{lent_number};
 ghost use Rattle.codeword.specs.Needs.{Fits};
 
 use crate::Shape;
+use refusal::Refusal;
 
-// The refusal of the lent areas, the first of which holds the message's octets, or of the parity table, or 0.
-pub fn lent_number(shape: Shape, octets: usize, table: &[u16], source: &[u8], coded: &[u8]) -> u8
+// The refusal of the lent areas, the first of which holds the message's octets, or of the parity table.
+#[tactic(auto, unfolding(crate::specs::Calls::lent_number))]
+pub fn check_lent(
+    shape: Shape,
+    octets: usize,
+    table: &[u16],
+    source: &[u8],
+    coded: &[u8],
+) -> Result<(), Refusal>
     requires { Fits shape }
-    ensures { result ≡ lent_number shape octets table.now source.now coded.now }
+    ensures { number result ≡ lent_number shape octets table.now source.now coded.now }
 {
-    if source.len() != octets {
-        return refusal::LENGTH;
+    if source.len() != octets || coded.len() != shape.octets {
+        return Err(Refusal::Length);
     }
-    if coded.len() != shape.octets {
-        return refusal::LENGTH;
+    if !parity_table::table_ok(shape.rows, table) {
+        return Err(Refusal::Table);
     }
-    if parity_table::table_ok(shape.rows, table) {
-        return 0;
-    }
-    refusal::TABLE
+    Ok(())
 }

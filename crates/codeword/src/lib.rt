@@ -7,8 +7,8 @@ mod calls;
 mod input;
 mod sizes;
 
-pub use answers::position_with;
-pub use calls::lent_number;
+pub use answers::position_of;
+pub use calls::check_lent;
 pub use input::put_input;
 pub use sizes::run_bits;
 
@@ -28,7 +28,8 @@ pub struct Shape {
 // What stands for the failing position where the parity is not what is refused.
 pub const NO_POSITION: u16 = 65535;
 
-// The refusal of a received word, or 0, and with that of its parity the lowest failing parity position.
+// What a call on a received word answers C: its number, 0 or the refusal's, and with that of its parity the lowest failing
+// parity position.
 #[repr(C)]
 #[derive(Clone, Copy)]
 pub struct WordAnswer {

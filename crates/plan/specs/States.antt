@@ -1,6 +1,8 @@
 -- The frame state (document 01, "Plan and place" and "Refusal list"): opening a frame, and passing a dummy.
-use Rattle.std.specs.Prelude.{◌&&◌, ℕ, ◌+◌, eqb, leb}
+use Rattle.std.specs.Prelude.{◌&&◌, ℕ, ◌+◌, eqb, leb, Result, Ok, Err}
 use Rattle.lists.specs.Choice.{pick, and_then}
+use Rattle.refusal.specs.Answers.{number_of}
+use Rattle.refusal.specs.declared.Refusal.{Refusal}
 use Rattle.refusal.specs.Numbers.{PLAN, DUMMY, FULL, REGISTER}
 use Rattle.dispersal.specs.Register.{register_ok, settings_ok}
 use Rattle.plan.specs.declared.Plan.{Plan}
@@ -26,6 +28,11 @@ moved_on s r = state_at (plan_in s) s.mask s.start (s.slot + 1) r
 -- the number with one state where it is 0, and another where it refuses
 abbrev pub answer : ℕ → FrameState → FrameState → Answer
 answer n good refused = record { number = n; state = pick (eqb n 0) good refused }
+
+-- what a call answers, a state or a refusal, as its number and a state: by a refusal the one that goes with it
+abbrev pub as_answer : FrameState → Result FrameState Refusal → Answer
+as_answer refused (Ok s) = record { number = 0; state = s }
+as_answer refused (Err r) = record { number = number_of r; state = refused }
 
 -- "Opening: 1, 6", the plan's other numbers behind 1 (document 02, N1); "Its settings are mask and start of the 25-bit
 -- register"

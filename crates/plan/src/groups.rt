@@ -1,35 +1,30 @@
 // The rules of a plan, each tested over the whole of it: number of groups, values, order, total.
 ghost use Rattle.std.specs.Prelude.{◌≡◌, ◌+◌, ◌≤◌, ◌<◌};
+ghost use Rattle.refusal.specs.Answers.{number};
 ghost use Rattle.plan.specs.Plans.{slots_before, values_ok, falls_after, all_values_ok, all_fall, rule_number, plan_number, data_slots_of};
 
 use crate::Plan;
 use crate::rates::{MODULATIONS, RATES, known};
+use refusal::Refusal;
 
+#[tactic(auto, unfolding(crate::specs::Plans::values_ok))]
 fn values_ok(plan: Plan, g: usize) -> bool
     requires { g < 8 }
     ensures { result ≡ values_ok plan g }
 {
-    let slots = plan.slots[g];
-    if known(plan.modulation[g] as u32, MODULATIONS) {
-        if known(plan.rate[g] as u32, RATES) {
-            if 1 <= slots {
-                return slots % 5 == 0;
-            }
-        }
-    }
-    false
+    known(u32::from(plan.modulation[g]), MODULATIONS)
+        && known(u32::from(plan.rate[g]), RATES)
+        && 1 <= plan.slots[g]
+        && plan.slots[g] % 5 == 0
 }
 
+#[tactic(auto, using(lists::specs::CountLaws::every_none, lists::specs::CountLaws::every_next, lists::specs::CountLaws::every_not))]
 fn all_values_ok(plan: Plan) -> bool
     requires { plan.count ≤ 8 }
     ensures { result ≡ all_values_ok plan }
 {
-    let count = lists::index(plan.count);
-    let mut g: usize = 0;
-    while g < count {
-        if values_ok(plan, g) {
-            g += 1;
-        } else {
+    for g in 0..usize::from(plan.count) {
+        if !values_ok(plan, g) {
             return false;
         }
     }
@@ -37,33 +32,23 @@ fn all_values_ok(plan: Plan) -> bool
 }
 
 // Whether group g + 1 falls below group g.
+#[tactic(auto, unfolding(crate::specs::Plans::falls_after))]
 fn falls_after(plan: Plan, g: usize) -> bool
     requires { g + 1 < 8 }
     ensures { result ≡ falls_after plan g }
 {
-    let next = g + 1;
     let modulation = plan.modulation[g];
-    let lower = plan.modulation[next];
-    if lower < modulation {
-        return true;
-    }
-    if lower == modulation {
-        let rate = plan.rate[g];
-        return plan.rate[next] < rate;
-    }
-    false
+    let lower = plan.modulation[g + 1];
+    lower < modulation || lower == modulation && plan.rate[g + 1] < plan.rate[g]
 }
 
+#[tactic(auto, using(lists::specs::CountLaws::every_none, lists::specs::CountLaws::every_next, lists::specs::CountLaws::every_not))]
 fn all_fall(plan: Plan) -> bool
     requires { plan.count ≤ 8 }
     ensures { result ≡ all_fall plan }
 {
-    let count = lists::index(plan.count);
-    let mut g: usize = 0;
-    while g + 1 < count {
-        if falls_after(plan, g) {
-            g += 1;
-        } else {
+    for g in 1..usize::from(plan.count) {
+        if !falls_after(plan, g - 1) {
             return false;
         }
     }
@@ -71,53 +56,53 @@ fn all_fall(plan: Plan) -> bool
 }
 
 // The slots of group g that carry data.
+#[tactic(auto, unfolding(crate::specs::Plans::data_slots_of))]
 pub fn data_slots(plan: Plan, g: usize) -> usize
     requires { g < 8 }
     ensures { result ≡ data_slots_of plan g }
 {
-    lists::index(plan.slots[g]) * lists::index(plan.modulation[g]) / 5
+    usize::from(plan.slots[g]) * usize::from(plan.modulation[g]) / 5
 }
 
 // The slots of all groups.
+#[tactic(auto, using(crate::proofs::PlanLaws::before_none, crate::proofs::PlanLaws::before_more))]
 fn total(plan: Plan) -> usize
     requires { plan.count ≤ 8 }
     ensures { result ≡ slots_before plan plan.count }
 {
-    let count = lists::index(plan.count);
-    let mut g: usize = 0;
     let mut sum: usize = 0;
-    while g < count {
-        sum += lists::index(plan.slots[g]);
-        g += 1;
+    for g in 0..usize::from(plan.count) {
+        sum += usize::from(plan.slots[g]);
     }
     sum
 }
 
-// The number of the first of these rules that does not hold.
-fn rule_number(values: bool, order: bool, whole: bool) -> u8
-    ensures { result ≡ rule_number values order whole }
+// The first of these rules that does not hold.
+fn check_rules(values: bool, order: bool, whole: bool) -> Result<(), Refusal>
+    ensures { number result ≡ rule_number values order whole }
 {
-    if values {
-        if order {
-            if whole {
-                return 0;
-            }
-            return refusal::TOTAL;
-        }
-        return refusal::ORDER;
+    if !values {
+        return Err(Refusal::Value);
     }
-    refusal::VALUE
+    if !order {
+        return Err(Refusal::Order);
+    }
+    if !whole {
+        return Err(Refusal::Total);
+    }
+    Ok(())
 }
 
-// The plan's number: 0, or the refusal of the first rule that it breaks.
-pub fn plan_number(plan: Plan) -> u8
-    ensures { result ≡ plan_number plan }
+// The refusal of the first rule that a plan breaks.
+#[tactic(auto, unfolding(crate::specs::Plans::plan_number, crate::specs::Plans::groups_ok))]
+pub fn check_plan(plan: Plan) -> Result<(), Refusal>
+    ensures { number result ≡ plan_number plan }
 {
-    if known(plan.count as u32, 8) {
-        let values = all_values_ok(plan);
-        let order = all_fall(plan);
-        let whole = total(plan) == 120;
-        return rule_number(values, order, whole);
+    if !known(u32::from(plan.count), 8) {
+        return Err(Refusal::Plan);
     }
-    refusal::PLAN
+    let values = all_values_ok(plan);
+    let order = all_fall(plan);
+    let whole = total(plan) == 120;
+    check_rules(values, order, whole)
 }

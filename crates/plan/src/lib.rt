@@ -3,16 +3,18 @@
 
 ghost use Rattle.std.specs.Prelude.{◌≡◌};
 ghost use Rattle.plan.specs.Records.{of_columns, no_plan, state_at, plan_in};
+ghost use Rattle.plan.specs.States.{as_answer, zeros};
 
 mod groups;
 mod places;
 mod rates;
 mod state;
 
-pub use groups::{data_slots, plan_number};
+pub use groups::{check_plan, data_slots};
 pub use places::place_of;
 pub use rates::{MODULATIONS, RATES, data_octets, known, packets, rows};
-pub use state::{advanced, next_place, open, pass, state_number};
+use refusal::Refusal;
+pub use state::{advanced, check_state, next_place, open, pass};
 
 // A slot: its bits, its octets, the width of its register, and the most parity bits, and the most header and data octets,
 // that one has.
@@ -70,12 +72,27 @@ pub struct FrameState {
     pub register: u32,
 }
 
-// What a call answers: its number, 0 or the refusal, and the state after it.
+// What a call answers C, where a Result does not cross: its number, 0 or the refusal's, and the state after it.
 #[repr(C)]
 #[derive(Clone, Copy)]
 pub struct Answer {
     pub number: u8,
     pub state: FrameState,
+}
+
+impl Answer {
+    // The state that a call answers, or the refusal's number and the state that goes with it.
+    pub fn new(answer: Result<FrameState, Refusal>, refused: FrameState) -> Answer
+        ensures { result ≡ as_answer refused answer }
+    {
+        match answer {
+            Ok(state) => Answer { number: 0, state },
+            Err(refusal) => Answer {
+                number: refusal.number(),
+                state: refused,
+            },
+        }
+    }
 }
 
 // A plan of count groups, from its columns.
@@ -96,6 +113,13 @@ pub fn no_plan() -> Plan
 {
     let none = [0u16; 8];
     of_columns(0, none, none, none)
+}
+
+// The state of zeros, which goes with a refused opening.
+pub fn no_state() -> FrameState
+    ensures { result ≡ zeros }
+{
+    state_at(no_plan(), 0, 0, 0, 0)
 }
 
 // The state of a plan and its settings at a slot, with a register.

@@ -12,17 +12,17 @@ pub fn place_of(plan: Plan, slot: usize) -> Place
 {
     let mut g: usize = 0;
     let mut passed: usize = 0;
-    let mut end = lists::index(plan.slots[0]);
+    let mut end = usize::from(plan.slots[0]);
     while end < slot {
         g += 1;
         passed = end;
-        end = passed + lists::index(plan.slots[g]);
+        end = passed + usize::from(plan.slots[g]);
     }
     let filled = data_slots(plan, g);
     Place {
         group: g,
-        modulation: plan.modulation[g] as u32,
-        rate: plan.rate[g] as u32,
+        modulation: u32::from(plan.modulation[g]),
+        rate: u32::from(plan.rate[g]),
         carries: slot - 1 - passed < filled,
     }
 }

@@ -11,10 +11,7 @@ pub const MODULATIONS: u32 = 5;
 pub fn known(x: u32, most: u32) -> bool
     ensures { result ≡ (leb 1 x && leb x most) }
 {
-    if x < 1 {
-        return false;
-    }
-    x <= most
+    (1..=most).contains(&x)
 }
 
 const ROWS: [usize; 12] = [0, 41, 49, 61, 73, 81, 89, 93, 97, 101, 105, 109];
@@ -30,17 +27,15 @@ pub fn rows(rate: u32) -> usize
 }
 
 // The data octets of a slot.
+#[tactic(auto, using(crate::proofs::RateLaws::rows_most), unfolding(crate::specs::Rates::data_octets_of, crate::specs::Rates::data_bits_of))]
 pub fn data_octets(rate: u32) -> usize
     ensures { result ≡ data_octets_of rate }
 {
-    let count = rows(rate);
-    if count == 0 {
-        return 0;
-    }
-    374 * (count - 1) / 8
+    374 * rows(rate).saturating_sub(1) / 8
 }
 
 // The packets of a slot.
+#[tactic(auto, unfolding(crate::specs::Rates::packets_of))]
 pub fn packets(rate: u32) -> usize
     ensures { result ≡ packets_of rate }
 {

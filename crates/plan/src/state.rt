@@ -1,71 +1,62 @@
 // The frame state: opening a frame, what every slot call tests, and passing a dummy.
 ghost use Rattle.std.specs.Prelude.{◌≡◌, ◌≤◌};
+ghost use Rattle.refusal.specs.Answers.{number};
 ghost use Rattle.plan.specs.Places.{place_of};
 ghost use Rattle.plan.specs.Records.{plan_in};
-ghost use Rattle.plan.specs.States.{moved_on, open_number, opened, sound_number, state_number, pass_number, passed};
+ghost use Rattle.plan.specs.States.{as_answer, zeros, moved_on, open_number, opened, sound_number, state_number, pass_number, passed};
 
-use crate::groups::plan_number;
+use crate::groups::check_plan;
 use crate::places::place_of;
-use crate::{Answer, FrameState, Place, Plan, SLOT_WIDTH, no_plan, plan_in, state_at};
+use crate::{FrameState, Place, Plan, SLOT_WIDTH, plan_in, state_at};
+use refusal::Refusal;
 
-fn open_number(plan: Plan, mask: u32, start: u32) -> u8
-    ensures { result ≡ open_number plan mask start }
+// The refusal of a plan or of a register's settings.
+#[tactic(auto, using(refusal::specs::AnswerLaws::refused_not_0), unfolding(crate::specs::States::open_number))]
+fn check_opening(plan: Plan, mask: u32, start: u32) -> Result<(), Refusal>
+    ensures { number result ≡ open_number plan mask start }
 {
-    let number = plan_number(plan);
-    if number != 0 {
-        return number;
+    check_plan(plan)?;
+    if !dispersal::settings_ok(SLOT_WIDTH, mask, start) {
+        return Err(Refusal::Register);
     }
-    if dispersal::settings_ok(SLOT_WIDTH, mask, start) {
-        return 0;
-    }
-    refusal::REGISTER
+    Ok(())
 }
 
-// Opens a frame: the state at slot 1, or the refusal and a state of zeros.
-pub fn open(plan: Plan, mask: u32, start: u32) -> Answer
-    ensures { result ≡ opened plan mask start }
+// Opens a frame: the state at slot 1, or the refusal.
+#[tactic(auto, using(refusal::specs::AnswerLaws::refused_not_0), unfolding(crate::specs::States::opened))]
+pub fn open(plan: Plan, mask: u32, start: u32) -> Result<FrameState, Refusal>
+    ensures { as_answer zeros result ≡ opened plan mask start }
 {
-    let number = open_number(plan, mask, start);
-    if number == 0 {
-        let state = state_at(plan, mask, start, 1, start);
-        return Answer { number, state };
-    }
-    let state = state_at(no_plan(), 0, 0, 0, 0);
-    Answer { number, state }
+    check_opening(plan, mask, start)?;
+    Ok(state_at(plan, mask, start, 1, start))
 }
 
-// The refusal of a state for its plan or its register, or 0.
-fn sound_number(state: FrameState) -> u8
-    ensures { result ≡ sound_number state }
+// The refusal of a state for its plan or its register.
+#[tactic(auto, using(refusal::specs::AnswerLaws::refused_not_0), unfolding(crate::specs::States::sound_number))]
+fn check_sound(state: FrameState) -> Result<(), Refusal>
+    ensures { number result ≡ sound_number state }
 {
     if state.slot == 0 {
-        return refusal::PLAN;
+        return Err(Refusal::Plan);
     }
-    let number = plan_number(plan_in(state));
-    if number != 0 {
-        return number;
+    check_plan(plan_in(state))?;
+    let set = dispersal::settings_ok(SLOT_WIDTH, state.mask, state.start);
+    if set && dispersal::register_ok(SLOT_WIDTH, state.register) {
+        return Ok(());
     }
-    if dispersal::settings_ok(SLOT_WIDTH, state.mask, state.start) {
-        if dispersal::register_ok(SLOT_WIDTH, state.register) {
-            return 0;
-        }
-        return refusal::REGISTER;
-    }
-    refusal::REGISTER
+    Err(Refusal::Register)
 }
 
 // What every slot call tests of the state handed in.
-pub fn state_number(state: FrameState) -> u8
-    ensures { result ≡ state_number state }
+#[tactic(auto, using(refusal::specs::AnswerLaws::refused_not_0), unfolding(crate::specs::States::state_number))]
+pub fn check_state(state: FrameState) -> Result<(), Refusal>
+    ensures { number result ≡ state_number state }
 {
-    let number = sound_number(state);
-    if number != 0 {
-        return number;
-    }
+    check_sound(state)?;
     if state.slot <= 120 {
-        return 0;
+        return Ok(());
     }
-    refusal::FULL
+    Err(Refusal::Full)
 }
 
 // The state one slot on, with a register.
@@ -87,34 +78,25 @@ pub fn next_place(state: FrameState) -> Place
     requires { state_number state ≡ 0 }
     ensures { result ≡ place_of (plan_in state) state.slot }
 {
-    place_of(plan_in(state), lists::index(state.slot))
+    place_of(plan_in(state), usize::from(state.slot))
 }
 
-fn pass_number(state: FrameState) -> u8
-    ensures { result ≡ pass_number state }
+#[tactic(auto, using(refusal::specs::AnswerLaws::refused_not_0), unfolding(crate::specs::States::pass_number, crate::specs::Places::place_of))]
+fn check_pass(state: FrameState) -> Result<(), Refusal>
+    ensures { number result ≡ pass_number state }
 {
-    let number = state_number(state);
-    if number != 0 {
-        return number;
+    check_state(state)?;
+    if next_place(state).carries {
+        return Err(Refusal::Dummy);
     }
-    let place = next_place(state);
-    if place.carries {
-        return refusal::DUMMY;
-    }
-    0
+    Ok(())
 }
 
-// Passes a dummy: the state one slot on, its register where it was, or the refusal and the state as it was.
-pub fn pass(state: FrameState) -> Answer
-    ensures { result ≡ passed state }
+// Passes a dummy: the state one slot on, its register where it was, or the refusal.
+#[tactic(auto, using(refusal::specs::AnswerLaws::refused_not_0), unfolding(crate::specs::States::passed))]
+pub fn pass(state: FrameState) -> Result<FrameState, Refusal>
+    ensures { as_answer state result ≡ passed state }
 {
-    let number = pass_number(state);
-    if number == 0 {
-        let next = advanced(state, state.register);
-        return Answer {
-            number,
-            state: next,
-        };
-    }
-    Answer { number, state }
+    check_pass(state)?;
+    Ok(advanced(state, state.register))
 }

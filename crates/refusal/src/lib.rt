@@ -1,36 +1,64 @@
-// The refusal numbers of documents 01 and 02, by their words.
+// The refusals of documents 01 and 02, by their words, and the numbers that they have there.
 #![tactic(auto)]
 
-pub const PLAN: u8 = 1;
+ghost use Rattle.std.specs.Prelude.{◌≡◌};
+ghost use Rattle.refusal.specs.Answers.{number, number_of};
 
-pub const DUMMY: u8 = 2;
+// Why a call is refused; a wrong parity comes with the lowest failing parity position.
+#[derive(Clone, Copy, Debug, PartialEq, Eq)]
+pub enum Refusal {
+    Plan,
+    Dummy,
+    Full,
+    Length,
+    Table,
+    Register,
+    Sync,
+    Parity(u16),
+    Bch,
+    Tail,
+    Label,
+    Value,
+    Order,
+    Total,
+    Packet,
+    Block,
+    Coordinate,
+}
 
-pub const FULL: u8 = 3;
+impl Refusal {
+    // Its number, for C and for what is told beside other values.
+    pub fn number(self) -> u8
+        ensures { result ≡ number_of self }
+    {
+        match self {
+            Refusal::Plan => 1,
+            Refusal::Dummy => 2,
+            Refusal::Full => 3,
+            Refusal::Length => 4,
+            Refusal::Table => 5,
+            Refusal::Register => 6,
+            Refusal::Sync => 7,
+            Refusal::Parity(_) => 8,
+            Refusal::Bch => 9,
+            Refusal::Tail => 11,
+            Refusal::Label => 12,
+            Refusal::Value => 13,
+            Refusal::Order => 14,
+            Refusal::Total => 15,
+            Refusal::Packet => 16,
+            Refusal::Block => 17,
+            Refusal::Coordinate => 18,
+        }
+    }
+}
 
-pub const LENGTH: u8 = 4;
-
-pub const TABLE: u8 = 5;
-
-pub const REGISTER: u8 = 6;
-
-pub const SYNC: u8 = 7;
-
-pub const PARITY: u8 = 8;
-
-pub const BCH: u8 = 9;
-
-pub const TAIL: u8 = 11;
-
-pub const LABEL: u8 = 12;
-
-pub const VALUE: u8 = 13;
-
-pub const ORDER: u8 = 14;
-
-pub const TOTAL: u8 = 15;
-
-pub const PACKET: u8 = 16;
-
-pub const BLOCK: u8 = 17;
-
-pub const COORDINATE: u8 = 18;
+// The number of what a call answers: 0 where it is accepted.
+pub fn number(answer: Result<(), Refusal>) -> u8
+    ensures { result ≡ number answer }
+{
+    match answer {
+        Ok(()) => 0,
+        Err(refused) => refused.number(),
+    }
+}

@@ -40,7 +40,7 @@ loop-end-init c =
     let b = before_more p 0 in
     let z = before_none p in
     let w = within p 1 a a.low in
-    let e : c.index-end.result ≡ slots_before p 1 = omega arith in
+    let e : c.from-end.result ≡ slots_before p 1 = omega arith in
     record { group = a.low; few = a.high; begins = sym z; ends = e; ahead = search rules; long = search rules; small = omega arith }
 
 pub bounds-plan-g : goal.bounds-plan-g
@@ -54,7 +54,7 @@ loop-end-preserved c =
     let n = next c.before.before in
     let b = before_more p (l.g + 1) in
     let w = within p (l.g + 1 + 1) (accepted p s.requires.plan) (search rules) in
-    let e : l.end + c.index.result ≡ slots_before p (l.g + 1 + 1) = omega arith in
+    let e : l.end + c.from.result ≡ slots_before p (l.g + 1 + 1) = omega arith in
     record { group = n; few = l.invariant.few; begins = l.invariant.ends; ends = e; ahead = search rules; long = search rules; small = omega arith }
 
 pub data_slots-filled-requires : goal.data_slots-filled-requires
@@ -70,4 +70,4 @@ returns c =
     let l = b.loop-end in
     let e : group_at p s.args.slot ≡ l.g
     = group_is p l.g s.args.slot (record { group = l.invariant.group; from = omega arith; to = omega arith }) in
-    rw (e, ← l.invariant.begins, d.data_slots-filled.ensures)
+    rw (e, ← l.invariant.begins, d.data_slots-filled.ensures, c.from-2.ensures, c.from-3.ensures)

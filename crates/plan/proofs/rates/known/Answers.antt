@@ -1,9 +1,0 @@
--- `plan::known`: the two tests are those of the contract.
-use borrow.Author.Tests.{le-leb, lt-leb}
-use Rattle.plan.proofs.rates.known.Goals as goal
-
-pub returns-then-x-lt1 : goal.returns-then-x-lt1
-returns-then-x-lt1 c = rw (lt-leb 1 c.args.x c.if-x-lt1.true)
-
-pub returns : goal.returns
-returns c = rw (le-leb 1 c.args.x c.if-x-lt1.false)
