@@ -1,4 +1,4 @@
--- `symbols::label_number`: the labels decide, one by one.
+-- `symbols::check_label`: the labels decide, one by one.
 use mathlib.Core.Path.{◌∙◌}
 use Prim.Native.Nat.{◌*◌, ◌%◌, ◌^◌}
 use lib.Dec.{ltb}
@@ -8,7 +8,7 @@ use Rattle.std.proofs.lemmas.Iterator.{YieldsList-from_slice}
 use Rattle.symbols.specs.Labels.{label_number}
 use Rattle.symbols.specs.LabelLaws.{one_shifted}
 use Rattle.symbols.proofs.Tests.{every_from_all}
-use Rattle.symbols.proofs.numbers.label_number.Goals as goal
+use Rattle.symbols.proofs.numbers.check_label.Goals as goal
 
 pub returns-then-all : goal.returns-then-all
 unfolding label_number
