@@ -4,6 +4,7 @@ ghost use Rattle.symbols.specs.Index.{right_to_left, bit_at, stride_of};
 ghost use Rattle.symbols.specs.Needs.{PlaceOf, Taking, grown, Putting, Put, weighed};
 
 // Whether rows are read from the right.
+#[tactic(auto, unfolding(crate::specs::Index::right_to_left))]
 pub fn right_to_left(modulation: u32, rate: u32) -> bool
     ensures { result ≡ right_to_left modulation rate }
 {
@@ -11,6 +12,7 @@ pub fn right_to_left(modulation: u32, rate: u32) -> bool
 }
 
 // How far apart the bits of one place lie.
+#[tactic(auto, unfolding(crate::specs::Index::stride_of))]
 pub fn stride(modulation: usize) -> usize
     ensures { result ≡ stride_of modulation }
 {
@@ -18,6 +20,7 @@ pub fn stride(modulation: usize) -> usize
 }
 
 // The bit that the first label has at a place.
+#[tactic(auto, using(crate::proofs::Strides::column_small), unfolding(crate::specs::Index::bit_at))]
 pub fn first_bit(modulation: usize, symbols: usize, leftward: bool, place: usize) -> usize
     requires { PlaceOf modulation symbols place }
     ensures { result ≡ bit_at modulation symbols leftward 0 place }
