@@ -1,10 +1,10 @@
 -- Laws of the calls' numbers: the ways out of the tests, and what a call with number 0 had.
-use Rattle.std.specs.Prelude.{◌≡◌, refl, Bool, true, false, ◌||◌, List, ℕ, zero, suc, ◌+◌, ◌-◌, ◌*◌, ◌/◌, ◌%◌, ◌<◌, ◌≤◌, eqb, leb, ltb, length, get_or}
+use Rattle.std.specs.Prelude.{◌≡◌, refl, Bool, true, false, ◌||◌, List, ℕ, zero, suc, ◌+◌, ◌*◌, ◌/◌, ◌%◌, ◌<◌, ◌≤◌, eqb, leb, ltb, length, get_or}
 use Rattle.std.proofs.Math.Path.{sym}
 use Rattle.std.proofs.Common.{ap, ap₂, ◌∙◌, mul-le-mul_left, arith}
 use Rattle.std.proofs.Math.Nat.{div-add-mod, mul-mod_right}
 use Rattle.std.proofs.Math.Decide.{ℕ_discrete}
-use borrow.Author.Tests.{lt-ltb, le-ltb, ltb-true, eq-eqb, ne_eqb, eqb-true, leb-true, le-leb}
+use borrow.Author.Tests.{lt-ltb, ltb-true, eq-eqb, ne_eqb, eqb-true, leb-true, le-leb}
 use Rattle.lists.specs.Choice.{pick}
 use Rattle.lists.specs.ChoiceLaws.{and_left, and_right, or_true, then_zero, not_refused}
 use Rattle.lists.specs.Count.{every, first}
@@ -17,19 +17,6 @@ use Rattle.tlv.specs.Packets.{packets_ok}
 use Rattle.tlv.specs.Fill.{none, stream_begins, filled, report, reports, taken_after, owed_after}
 use Rattle.tlv.specs.FillLaws.{reports_at_law, length_reports}
 use Rattle.tlv.specs.Calls.{slots_of, slots_ok, taken_ok, fill_lent, fill_number, fill_answer, fill_slots, fill_begins, place_ok, mark_ok, all_hold, read_ok, read_number, reading_of, read_answer, laid, read_packets}
-
-module _ (D T b : ℕ) where
-  pub slots_none : T ≡ 0 → false ≡ slots_ok D T b
-  unfolding slots_ok
-  slots_none e = rw (le-ltb 0 T (omega arith))
-
-  pub slots_part : (T ≡ 0 → ⊥) → (T % D ≡ 0 → ⊥) → false ≡ slots_ok D T b
-  unfolding slots_ok
-  slots_part e h = rw (lt-ltb 0 T (omega arith), ne_eqb (T % D) 0 h)
-
-  pub slots_whole : (T ≡ 0 → ⊥) → T % D ≡ 0 → eqb b (T / D) ≡ slots_ok D T b
-  unfolding slots_ok
-  slots_whole e h = rw (lt-ltb 0 T (omega arith), eq-eqb (T % D) 0 h)
 
 -- the data octets of a known rate's slot
 pub record Data (D : ℕ) : Type 0 where

@@ -1,11 +1,9 @@
 -- The slots in three pieces: owed octets, octets of packets, octets of fillers.
-use Rattle.std.specs.Prelude.{◌≡◌, refl, List, ◌++◌, ℕ, ◌+◌, ◌-◌, ◌%◌, ◌<◌, ◌≤◌, min, length, get_or}
+use Rattle.std.specs.Prelude.{◌≡◌, List, ◌++◌, ℕ, ◌+◌, ◌-◌, ◌%◌, ◌<◌, ◌≤◌, min, length, get_or}
 use Rattle.std.proofs.Common.{sym, ap, ◌∙◌, arith, lt-ltb, le-ltb}
-use borrow.Rule.Slice.PartMut.{put_mid}
 use Rattle.lists.specs.Count.{table}
-use Rattle.lists.specs.CountLaws.{length_table, table_same, table_split}
+use Rattle.lists.specs.CountLaws.{table_same, table_split}
 use Rattle.lists.specs.Parts.{part}
-use Rattle.lists.specs.PartLaws.{length_part, three_parts}
 use Rattle.tlv.specs.Packets.{octets, run}
 use Rattle.tlv.specs.Fill.{filler, sent_at, stream_at, filled}
 use Rattle.tlv.specs.FillLaws.{sent_behind}
@@ -31,22 +29,18 @@ filled_pieces packets taken owed m r within all =
     let e : (taken + (m + k) - length packets) ≡ k = omega arith in
     sent_behind packets (taken + (m + k)) (omega arith) ∙ ap (λ (x : ℕ). get_or filler (x % 4) 0) e)))
 
--- three pieces that were put one behind the other, m octets of packets as many as there are and as there is room for
+-- three pieces one behind the other, m octets of packets as many as there are and as there is room for
 module _ (packets : List ℕ) (taken owed m : ℕ) (slots : List ℕ) (needs : LayNeeds packets taken owed slots) (fewest : m ≡ min (length packets - taken) (length slots - owed)) where
   pub laid_pieces : (a b d : List ℕ) (x z : ℕ)
       → a ≡ table x (λ i. get_or filler ((4 - owed + i) % 4) 0) → x ≡ owed
       → b ≡ part taken (taken + m) packets
       → d ≡ table z (λ i. get_or filler ((0 + i) % 4) 0) → z ≡ length slots - (owed + m)
-      → put_mid (owed + m) (length slots - (owed + m)) (put_mid owed (owed + m - owed) (put_mid 0 (owed - 0) slots a) b) d
-      ≡ filled packets taken owed (length slots)
+      → a ++ (b ++ d) ≡ filled packets taken owed (length slots)
   laid_pieces a b d x z ea ex eb ed ez =
       let within = needs.within in
       let few = needs.few in
       let room = needs.room in
       let r : ℕ = length slots - (owed + m) in
-      let la : length a ≡ owed = ap length ea ∙ length_table x (λ i. get_or filler ((4 - owed + i) % 4) 0) ∙ ex in
-      let lb : length b ≡ m = ap length eb ∙ length_part taken (taken + m) packets (omega arith) ∙ omega arith in
-      let ld : length d ≡ r = ap length ed ∙ length_table z (λ i. get_or filler ((0 + i) % 4) 0) ∙ ez in
       let all : owed + (m + r) ≡ length slots = omega arith in
       let front : a ≡ run (octets filler) (4 - owed) owed
       = ea ∙ ap (λ (n : ℕ). table n (λ i. get_or filler ((4 - owed + i) % 4) 0)) ex
@@ -54,8 +48,7 @@ module _ (packets : List ℕ) (taken owed m : ℕ) (slots : List ℕ) (needs : L
       let back : d ≡ table r (λ i. get_or filler (i % 4) 0)
       = ed ∙ ap (λ (n : ℕ). table n (λ i. get_or filler ((0 + i) % 4) 0)) ez
       ∙ table_same r _ _ (λ k l. let e : 0 + k ≡ k = omega arith in ap (λ (n : ℕ). get_or filler (n % 4) 0) e) in
-      three_parts slots a b d owed (owed + m) (length slots) refl (omega arith) (omega arith) (la ∙ omega arith) (lb ∙ omega arith) ld
-      ∙ ap (λ (n : List ℕ). n ++ (b ++ d)) front
+      ap (λ (n : List ℕ). n ++ (b ++ d)) front
       ∙ ap (λ (n : List ℕ). run (octets filler) (4 - owed) owed ++ (n ++ d)) eb
       ∙ ap (λ (n : List ℕ). run (octets filler) (4 - owed) owed ++ (part taken (taken + m) packets ++ n)) back
       ∙ sym (filled_pieces packets taken owed m r (omega arith) (λ h. omega arith))

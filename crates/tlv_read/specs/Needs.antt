@@ -45,6 +45,11 @@ pub record ReadNeeds (D n : ℕ) (slots lost begins : List ℕ) (p : ℕ) (area 
   pub lent : Lent D n slots lost begins p
   pub place : length area ≡ length slots
 
+-- slots of D octets, end to end, with a mark and a report each
+pub record Lending (D : ℕ) (slots lost begins : List ℕ) : Type 0 where
+  pub reported : Reported D (length begins) lost begins
+  pub long : length slots ≡ D * length begins
+
 -- an answer that says the reading g, and the area that held `found`
 pub record ReadIs (g : Reading) (r : ReadAnswer) (found area : List ℕ) : Type 0 where
   pub answer : r ≡ record { number = 0; written = length g.written; unfinished = g.unfinished }
