@@ -2,11 +2,12 @@
 ghost use Rattle.std.specs.Prelude.{◌≡◌, ◌-◌, ◌≤◌, length, true, false, MatchOption};
 ghost use Rattle.lists.specs.Count.{joined};
 ghost use Rattle.lists.specs.CountLaws.{joined_at};
-ghost use Rattle.refusal.specs.Answers.{Answered};
+ghost use Rattle.refusal.specs.Answers.{Answered, number};
 ghost use Rattle.plan.specs.Rates.{rate_ok};
 ghost use Rattle.published.specs.Published.{table_at, table_of, length_of, copy_number};
 
 use crate::data::{STARTS, TABLES};
+use refusal::Refusal;
 use std::ops::Range;
 
 // Where the table of a rate stands among all of them, if it has one.
@@ -32,23 +33,23 @@ pub fn table_length(rate: u32) -> usize
 }
 
 // Copies the table of a rate from all of them.
-fn copy_from(tables: &[u16], rate: u32, area: &mut [u16]) -> u8
+fn copy_from(tables: &[u16], rate: u32, area: &mut [u16]) -> Result<(), Refusal>
     requires { tables.now ≡ joined 11 table_at }
-    ensures { Answered (copy_number rate area.old) (table_of rate) area.old result area.new }
+    ensures { Answered (copy_number rate area.old) (table_of rate) area.old (number result) area.new }
 {
     let Some(place) = place(rate) else {
-        return refusal::PLAN;
+        return Err(Refusal::Plan);
     };
     if area.len() != place.len() {
-        return refusal::LENGTH;
+        return Err(Refusal::Length);
     }
     area.copy_from_slice(&tables[place]);
-    0
+    Ok(())
 }
 
 // Copies the published table of a rate from 1 to 11 into an area of exactly its length.
-pub fn copy_table(rate: u32, area: &mut [u16]) -> u8
-    ensures { Answered (copy_number rate area.old) (table_of rate) area.old result area.new }
+pub fn copy_table(rate: u32, area: &mut [u16]) -> Result<(), Refusal>
+    ensures { Answered (copy_number rate area.old) (table_of rate) area.old (number result) area.new }
 {
     let tables = TABLES;
     copy_from(&tables, rate, area)
