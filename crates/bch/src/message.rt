@@ -12,7 +12,7 @@ use crate::division::Words;
 use crate::{division, table};
 
 // The remainder of a message of octets.
-fn divide_octets(table: &[u64; 768], octets: &[u8]) -> Words
+fn divide_octets(table: &[Words; 256], octets: &[u8]) -> Words
     requires { Table table.now }
     ensures { worth result ≡ remainder_of 192 generator (bits_of octets.now) }
 {
@@ -25,7 +25,7 @@ fn divide_octets(table: &[u64; 768], octets: &[u8]) -> Words
 
 // The remainder of a message of bits. The bits before the whole eights, less than eight, go first, as the low bits
 // of an octet: zeros in front of a message change nothing.
-fn divide_bits(table: &[u64; 768], run: &[u8]) -> Words
+fn divide_bits(table: &[Words; 256], run: &[u8]) -> Words
     requires { Divided table.now run.now }
     ensures { worth result ≡ remainder_of 192 generator run.now }
 {
