@@ -17,9 +17,7 @@ pub extern "C" fn s3_point(
 ) -> PointValues
     ensures { result ≡ point_values (point_number modulation label symbol in_phase.now quadrature.now) (point_of modulation symbol in_phase.now quadrature.now label) }
 {
-    PointValues::new(points::point_of_label(
-        modulation, label, symbol, in_phase, quadrature,
-    ))
+    PointValues::new(points::point_of_label(modulation, label, symbol, in_phase, quadrature))
 }
 
 #[tactic(auto, using(points::proofs::AnswerLaws::values_answered))]

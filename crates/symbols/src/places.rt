@@ -39,6 +39,7 @@ pub fn take_place(bits: &[u8], start: usize, step: usize, labels: &mut [u8])
     requires { Taking bits.now start step labels.old }
     ensures { labels.new ≡ grown bits.now start step labels.old }
 {
+    // The place is counted: `step_by` would look for the run's end at each label, besides the labels' own.
     let mut at = start;
     for label in labels.iter_mut() {
         *label = *label * 2 + bits[at];

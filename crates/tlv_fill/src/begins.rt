@@ -12,6 +12,7 @@ fn first_begin(packets: &[u8], h: usize, target: usize) -> usize
     requires { AheadNeeds packets.now h target }
     ensures { Ahead packets.now target result × (target ≤ result) }
 {
+    // `at` goes on by each packet's own size, which no iterator gives.
     let mut at = h;
     while at < target {
         if packets.len() <= at {

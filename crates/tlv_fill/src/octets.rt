@@ -19,6 +19,7 @@ fn put_fillers(from: usize, to: &mut [u8])
     requires { from ≤ 4 }
     ensures { to.new ≡ table (length to.old) (λ i. get_or filler ((from + i) % 4) 0) }
 {
+    // The remainder by 4 is a mask; `cycle` and `skip` would be no plainer.
     for (i, octet) in to.iter_mut().enumerate() {
         *octet = FILLER[(from + i) % 4];
     }

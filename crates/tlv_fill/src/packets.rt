@@ -6,6 +6,7 @@ ghost use Rattle.tlv.specs.Packets.{packets_ok};
 pub fn packets_ok(packets: &[u8]) -> bool
     ensures { result ≡ packets_ok packets.now }
 {
+    // h goes on by each packet's own size, which no iterator gives.
     let mut h: usize = 0;
     while h < packets.len() {
         let rest = packets.len() - h;

@@ -1,5 +1,5 @@
 -- What the functions ask of their arguments, and what they say of their results.
-use Rattle.std.specs.Prelude.{◌≡◌, Bool, true, ◌&&◌, List, [], ℕ, ◌*◌, ◌/◌, ◌<◌, ◌≤◌, eqb, length}
+use Rattle.std.specs.Prelude.{◌≡◌, Bool, true, ◌&&◌, List, [], ℕ, ◌*◌, ◌<◌, ◌≤◌, eqb, length}
 use Rattle.lists.specs.Choice.{pick}
 use Rattle.tlv.specs.declared.ReadAnswer.{ReadAnswer}
 use Rattle.tlv.specs.Packets.{run}
@@ -17,10 +17,6 @@ pub record Reported (D n : ℕ) (lost begins : List ℕ) : Type 0 where
   pub marked : Marked D n lost
   pub reports : length begins ≡ n
   pub inside : Inside D n begins
-
-pub record WholeNeeds (D n : ℕ) (lost begins : List ℕ) (s p : ℕ) : Type 0 where
-  pub reported : Reported D n lost begins
-  pub place : s ≡ p / D
 
 -- the step that a Move is: stop at `at`, or write `size` octets from p on and go on at `at`
 unfoldable pub moved : (ℕ → ℕ) → ℕ → Bool → ℕ → ℕ → Step

@@ -1,5 +1,5 @@
 -- `symbols::block_of_labels`: where the call is accepted, the labels' block.
-use mathlib.Core.Path.{refl, sym, ◌∙◌}
+use mathlib.Core.Path.{refl, sym}
 use Prim.Native.Nat.{ℕ}
 use lib.ListN.{length, replicate, length-replicate}
 use Rattle.refusal.specs.AnswerLaws.{accepted}

@@ -1,5 +1,5 @@
 -- `symbols::labels_of_slot`: where the call is accepted, the slot's labels.
-use mathlib.Core.Path.{refl, sym, ◌∙◌}
+use mathlib.Core.Path.{refl, sym}
 use Prim.Native.Nat.{ℕ}
 use lib.ListN.{length, replicate, length-replicate}
 use Rattle.refusal.specs.AnswerLaws.{accepted}
