@@ -92,29 +92,27 @@ loop-address-preserved c =
     let a = c.args in
     let f = c.rows.s + 1 in
     let i = c.loop-address.address-index in
-    let e = c.from-in-loop-address.ensures ∙ part_at f (f + c.from.result) i a.table.now (search rules) in
+    let e = c.from-in-loop-address.ensures ∙ part_at _ _ i a.table.now (search rules) in
     added_then _ c.loop-address.sums _ _ _ _ c.loop-address.invariant c.add_address.ensures
     (λ n. rw e (row_stepped_more (spacing a.rows) a.table.now a.bits.now f i (374 * c.rows.r) (across (spacing a.rows) 374 n)))
 
 pub rows-preserved-then-r-rows : goal.rows-preserved-then-r-rows
 rows-preserved-then-r-rows c =
-    let l = c in
-    let r = l in
     let a = c.args in
     let t = a.table.now in
     let n = c.from.ensures in
     let w = row a.rows c.rows.r c.rows.s t c.requires.ready.ok c.if-r-rows.true c.rows.invariant.start in
     let p = length_part (c.rows.s + 1) (c.rows.s + 1 + c.from.result) t (omega (arith, w, n)) in
     let i : c.loop-address.address-index ≡ c.from.result = omega arith in
-    let f : min r.rows.r a.rows ≡ r.rows.r = omega arith in
-    let g : min (r.rows.r + 1) a.rows ≡ r.rows.r + 1 = omega arith in
-    let e : r.rows.s ≡ row_start t r.rows.r = r.rows.invariant.start ∙ ap (row_start t) f in
+    let f : min c.rows.r a.rows ≡ c.rows.r = omega arith in
+    let g : min (c.rows.r + 1) a.rows ≡ c.rows.r + 1 = omega arith in
+    let e : c.rows.s ≡ row_start t c.rows.r = c.rows.invariant.start ∙ ap (row_start t) f in
     record {
-      start = rw g (omega (arith, row_start_more t r.rows.r, ap (λ (k : ℕ). get_or t k 0) e));
-      adding = added_then _ r.rows.sums _ _ _ _ r.rows.invariant.adding c.loop-address.invariant
-          (λ k. times_stepped_next (spacing a.rows) t a.bits.now (across (spacing a.rows) 374 k) r.rows.r r.rows.s _ _ _ _ e f g n i);
-      reached = omega (arith, r.rows.invariant.reached);
-      passed = r.rows.invariant.passed;
+      start = rw g (omega (arith, row_start_more t c.rows.r, ap (λ (k : ℕ). get_or t k 0) e));
+      adding = added_then _ c.rows.sums _ _ _ _ c.rows.invariant.adding c.loop-address.invariant
+          (λ k. times_stepped_next (spacing a.rows) t a.bits.now (across (spacing a.rows) 374 k) c.rows.r c.rows.s _ _ _ _ e f g n i);
+      reached = omega (arith, c.rows.invariant.reached);
+      passed = c.rows.invariant.passed;
     }
 
 pub loop-init : goal.loop-init
@@ -139,28 +137,24 @@ next_place-place-requires c =
 
 pub loop-preserved : goal.loop-preserved
 loop-preserved c =
-    let w = c in
-    let l = w in
-    let r = l in
     let a = c.args in
+    let m = full a.rows c.rows.r a.table.now a.bits.now a.sums.now c.rows.sums c.fill.new.to c.fill.ensures c.requires.ready.room c.if-r-rows.false c.rows.invariant.adding in
     let h : c.loop.position < positions c.args.rows = omega (arith, c.loop.invariant.reached, c.rows.invariant.reached) in
     rw c.next_place-place.ensures (record {
-      reached = omega (arith, l.loop.invariant.reached);
-      passed = passed_more a.rows a.table.now a.bits.now _ r.rows.sums c.requires.ready.ok refl (full a.rows c.rows.r a.table.now a.bits.now a.sums.now c.rows.sums c.fill.new.to c.fill.ensures c.requires.ready.room c.if-r-rows.false c.rows.invariant.adding) a.received.now _ l.loop.last l.loop.position l.loop.place c.from-in-loop.result
-          (omega arith) l.loop.invariant.passed h c.from-in-loop.ensures (c.if-last-from.false ∙ c.from-in-loop-2.ensures);
+      reached = omega (arith, c.loop.invariant.reached);
+      passed = passed_more a.rows a.table.now a.bits.now _ c.rows.sums c.requires.ready.ok refl m a.received.now _ c.loop.last c.loop.position c.loop.place c.from-in-loop.result
+          (omega arith) c.loop.invariant.passed h c.from-in-loop.ensures (c.if-last-from.false ∙ c.from-in-loop-2.ensures);
     })
 
 pub rows-preserved : goal.rows-preserved
 rows-preserved c =
-    let l = c.loop in
-    let r = c in
     let a = c.args in
-    let e : min r.rows.r a.rows ≡ min (r.rows.r + 1) a.rows = omega arith in
+    let e : min c.rows.r a.rows ≡ min (c.rows.r + 1) a.rows = omega arith in
     record {
-      start = r.rows.invariant.start ∙ ap (row_start a.table.now) e;
-      adding = added_rows _ _ r.rows.sums a.rows a.table.now a.bits.now refl e r.rows.invariant.adding;
-      reached = omega (arith, l.invariant.reached, r.rows.invariant.reached);
-      passed = l.invariant.passed;
+      start = c.rows.invariant.start ∙ ap (row_start a.table.now) e;
+      adding = added_rows _ _ c.rows.sums a.rows a.table.now a.bits.now refl e c.rows.invariant.adding;
+      reached = omega (arith, c.loop.invariant.reached, c.rows.invariant.reached);
+      passed = c.loop.invariant.passed;
     }
 
 pub returns-after-rows : goal.returns-after-rows
@@ -171,14 +165,12 @@ returns-after-rows c =
 
 pub returns-then-last-from : goal.returns-then-last-from
 returns-then-last-from c =
-    let w = c in
-    let l = w in
-    let r = l in
     let a = c.args in
+    let m = full a.rows c.rows.r a.table.now a.bits.now a.sums.now c.rows.sums c.fill.new.to c.fill.ensures c.requires.ready.room c.if-r-rows.false c.rows.invariant.adding in
     let h : c.loop.position < positions c.args.rows = omega (arith, c.loop.invariant.reached, c.rows.invariant.reached) in
-    let p = (parity_at a.rows a.table.now a.bits.now _ r.rows.sums c.requires.ready.ok refl (full a.rows c.rows.r a.table.now a.bits.now a.sums.now c.rows.sums c.fill.new.to c.fill.ensures c.requires.ready.room c.if-r-rows.false c.rows.invariant.adding) a.received.now l.loop.last l.loop.position l.loop.place c.from-in-loop.result
-    l.loop.invariant.passed h c.from-in-loop.ensures).1 in record {
-      value = sym (lowest_wrong_is a.rows a.table.now a.bits.now a.received.now l.loop.position (omega arith) l.loop.invariant.passed.right
+    let p = (parity_at a.rows a.table.now a.bits.now _ c.rows.sums c.requires.ready.ok refl m a.received.now c.loop.last c.loop.position c.loop.place c.from-in-loop.result
+    c.loop.invariant.passed h c.from-in-loop.ensures).1 in record {
+      value = sym (lowest_wrong_is a.rows a.table.now a.bits.now a.received.now c.loop.position (omega arith) c.loop.invariant.passed.right
           (λ _ e. c.if-last-from.true (p ∙ e ∙ sym c.from-in-loop-2.ensures)));
-      added_by_steps = full a.rows c.rows.r a.table.now a.bits.now a.sums.now c.rows.sums c.fill.new.to c.fill.ensures c.requires.ready.room c.if-r-rows.false c.rows.invariant.adding;
+      added_by_steps = m;
     }
