@@ -1,15 +1,14 @@
 // The list of a plan's runs, written, and the whole answer of plan-list.
 #![tactic(auto)]
 
-ghost use Rattle.std.specs.Prelude.{[], ◌≡◌, IfOk, eqb, leb, length};
+ghost use Rattle.std.specs.Prelude.{[], ◌≡◌, eqb, leb, length};
 ghost use Rattle.lists.specs.Choice.{pick};
 ghost use Rattle.lists.specs.Count.{joined};
 ghost use Rattle.lists.specs.Parts.{put};
 ghost use Rattle.plan.specs.Plans.{plan_number};
-ghost use Rattle.refusal.specs.Answers.{number};
 ghost use Rattle.texts.specs.Needs.{Number};
 ghost use Rattle.texts.specs.Written.{Written};
-ghost use Rattle.run_list.specs.Listing.{run_line, group_text, data_total, total_line, list_text, refused_text, answer_text};
+ghost use Rattle.run_list.specs.Listing.{run_line, group_text, data_total, total_line, list_text, listed, as_listed, refused_text, answer_text};
 ghost use Rattle.run_list.specs.Needs.{Taken, RunLine, GroupLines, PlanLines, Totals, ListArea};
 
 use plan::Plan;
@@ -115,10 +114,9 @@ fn write_refusal(out: &mut [u8], number: usize) -> usize
 }
 
 // Writes the list of a plan and answers how many octets it takes, or the plan's refusal, with the area as it was.
-#[tactic(auto, using(refusal::specs::AnswerLaws::refused_not_0))]
+#[tactic(auto, using(refusal::specs::AnswerLaws::refused_not_0), unfolding(crate::specs::Listing::listed))]
 pub fn write_list(plan: Plan, out: &mut [u8; 512]) -> Result<usize, Refusal>
-    ensures refusal { number result ≡ plan_number plan }
-    ensures value { IfOk result (λ n. n ≡ length (list_text plan)) }
+    ensures value { as_listed result ≡ listed plan }
     ensures out_after { out.new ≡ pick (eqb (plan_number plan) 0) (put 0 (list_text plan) out.old) out.old }
 {
     plan::check_plan(plan)?;
