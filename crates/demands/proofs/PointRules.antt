@@ -1,5 +1,5 @@
 -- Document 02, N6, proved.
-use Rattle.std.specs.Prelude.{◌≡◌, false, not, ◌&&◌, List, T, eqb, Float, ℤ, length, get_or}
+use Rattle.std.specs.Prelude.{◌≡◌, false, not, ◌&&◌, List, T, eqb, Float, ℤ, Ok, Err, length, get_or}
 use Rattle.std.proofs.Math.Path.{refl}
 use Rattle.std.proofs.Common.{sym, ap, ap₂, ◌∙◌, inl, inr}
 use Rattle.std.proofs.Math.Bool.{Bool, true}
@@ -26,7 +26,6 @@ use Rattle.symbols.specs.Labels.{block_labels, label_number, labels_of_octets}
 use Rattle.symbols.specs.LabelLaws.{length_octet_labels, octet_labels_below}
 use Rattle.symbols.specs.CallLaws.{labels_fit_yes}
 use Rattle.points.specs.declared.Point.{Point}
-use Rattle.points.specs.declared.PointAnswer.TheVariants.{At, Refused}
 use Rattle.points.specs.Points.{quarter_turn, half_turn, lent_point, bpsk, shifted, point_of, arranged_width, arranged_of, used_ok}
 use Rattle.points.proofs.PointLaws.{length_in_phase, length_quadrature, in_phase_at, quadrature_at}
 use Rattle.points.proofs.AnswerLaws.{point_answered, refusal_answered, values_answered}
@@ -35,12 +34,12 @@ use Rattle.points.proofs.NumberLaws.{Lent, lent, and_true}
 use Rattle.demands.specs.PointRequests.{OneAnswer, AnswerByValue, SymbolsTurned, ArrangedTurned, ArrangedStepped, EntryOrNegation, CoordinatesLent, SignsTurned, CoordinatesExact, Finite, PointsFinite, TurnsBack, InOrder, PointsRefused, UnusedUnseen, LabelsTaken, RunOneByOne}
 
 pub one_answer : OneAnswer
-one_answer n p (At r) a =
+one_answer n p (Ok r) a =
     let f = point_answered n p r a in
-    record { accepted = λ z. ap At f.1; refused = λ d. absurd (d f.0) }
-one_answer n p (Refused k) a =
-    let f = refusal_answered n k p a in
-    record { accepted = λ z. absurd (f.1 z); refused = λ d. ap Refused f.0 }
+    record { accepted = λ z. rw f.1; refused = λ d. absurd (d f.0) }
+one_answer n p (Err e) a =
+    let f = refusal_answered n p e a in
+    record { accepted = λ z. absurd (f.1 z); refused = λ d. (e, refl, f.0) }
 
 pub answer_by_value : AnswerByValue
 answer_by_value =

@@ -1,28 +1,28 @@
 -- What document 02, N6, asks of signal points, as statements over the definitions that the contracts of the public entries cite.
-use Rattle.std.specs.Prelude.{◌≡◌, Bool, true, false, ◌&&◌, List, ◌⊎◌, ℕ, ◌+◌, ◌*◌, ◌%◌, ◌^◌, ◌<◌, T, ltb, Float, length, get_or}
+use Rattle.std.specs.Prelude.{◌≡◌, Bool, true, false, ◌&&◌, List, ◌⊎◌, ℕ, ◌+◌, ◌*◌, ◌%◌, ◌^◌, ◌<◌, T, ltb, Float, Result, Ok, Err, length, get_or}
 use Rattle.std.specs.Float.{nan, binary32}
 use Rattle.std.specs.Float.Ieee.{neg, is_nan, fits, to_bits, of_bits}
 use Rattle.std.specs.Float.Ieee.Scale.{finite}
 use Rattle.lists.specs.Count.{every}
+use Rattle.refusal.specs.Answers.{number_of}
+use Rattle.refusal.specs.declared.Refusal.{Refusal}
 use Rattle.refusal.specs.Numbers.{PLAN, LENGTH, REGISTER, LABEL, COORDINATE}
 use Rattle.dispersal.specs.Register.{step, top, settings_ok}
 use Rattle.plan.specs.Rates.{modulation_ok, symbols_of}
 use Rattle.symbols.specs.Labels.{block_labels, labels_of_slot, labels_of_block, label_number}
 use Rattle.points.specs.declared.Point.{Point}
-use Rattle.points.specs.declared.PointAnswer.{PointAnswer}
-use Rattle.points.specs.declared.PointAnswer.TheVariants.{At, Refused}
 use Rattle.points.specs.Points.{quarter_turn, half_turn, lent_point, bpsk, point_of, arranged_width, arranged_of, in_phase_of, quadrature_of, used_ok}
 use Rattle.points.specs.declared.PointValues.{PointValues}
 use Rattle.points.specs.Answers.{no_coordinate, as_values, point_values, Answers}
 use Rattle.points.specs.Numbers.{lent_ok, room_ok, point_number, arranged_number, points_number, step_answer}
 
 -- "The answer is a point with both coordinates, or the refusal": a contract with number n and point p leaves one answer
-pub record PointOrRefusal (n : ℕ) (p : Point) (r : PointAnswer) : Type 0 where
-  pub accepted : n ≡ 0 → r ≡ At p
-  pub refused : (n ≡ 0 → ⊥) → r ≡ Refused n
+pub record PointOrRefusal (n : ℕ) (p : Point) (r : Result Point Refusal) : Type 0 where
+  pub accepted : n ≡ 0 → r ≡ Ok p
+  pub refused : (n ≡ 0 → ⊥) → (e : Refusal) × (r ≡ Err e) × (number_of e ≡ n)
 
 abbrev pub OneAnswer : Type 0
-OneAnswer = (n : ℕ) (p : Point) (r : PointAnswer) → Answers n p r → PointOrRefusal n p r
+OneAnswer = (n : ℕ) (p : Point) (r : Result Point Refusal) → Answers n p r → PointOrRefusal n p r
 
 -- the same for C, where number and coordinates stand side by side: those of the point where the number is 0; and "Every other
 -- number returned with a refusal is 0" (document 01), so that both are +0 where it is not
@@ -33,8 +33,8 @@ pub record SideBySide (n : ℕ) (p : Point) (v : PointValues) : Type 0 where
 
 pub record AnswerByValue : Type 0 where
   pub told : (n : ℕ) (p : Point) → SideBySide n p (point_values n p)
-  -- it is made of the enum's number and values
-  pub made : (n : ℕ) (p : Point) (r : PointAnswer) → Answers n p r → as_values r ≡ point_values n p
+  -- it is made of the answer's number and values
+  pub made : (n : ℕ) (p : Point) (r : Result Point Refusal) → Answers n p r → as_values r ≡ point_values n p
 
 -- "For BPSK the caller gives the symbol number from 1 in the frame .., and even symbols turn by 90 degrees anticlockwise, which
 -- makes (I, Q) into (−Q, I)"; other symbols, and other modulations, have the lent point

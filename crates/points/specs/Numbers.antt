@@ -1,8 +1,10 @@
 -- The refusals of the calls on points (document 02, N6: "the order is 1, 6, 4, 12, 18").
-use Rattle.std.specs.Prelude.{Bool, true, not, ◌&&◌, ◌||◌, List, ℕ, ◌^◌, eqb, ltb, Float, length, get_or}
+use Rattle.std.specs.Prelude.{Bool, true, not, ◌&&◌, ◌||◌, List, ℕ, ◌^◌, eqb, ltb, Float, Result, Ok, Err, length, get_or}
 use Rattle.lists.specs.Choice.{pick, and_then}
 use Rattle.lists.specs.Count.{every}
 use Rattle.refusal.specs.Numbers.{PLAN, LENGTH, REGISTER, LABEL, COORDINATE}
+use Rattle.refusal.specs.Answers.{number_of}
+use Rattle.refusal.specs.declared.Refusal.{Refusal}
 use Rattle.dispersal.specs.Register.{step, settings_ok}
 use Rattle.plan.specs.Rates.{modulation_ok}
 use Rattle.symbols.specs.Labels.{label_number}
@@ -56,3 +58,8 @@ step_answer mask register =
     pick (settings_ok arranged_width mask register)
     (record { number = 0; register = step arranged_width mask register })
     (record { number = REGISTER; register = 0 })
+
+-- what that call answers, a register or a refusal, as its number and a register
+abbrev pub as_step : Result ℕ Refusal → StepAnswer
+as_step (Ok register) = record { number = 0; register = register }
+as_step (Err r) = record { number = number_of r; register = 0 }

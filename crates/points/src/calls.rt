@@ -1,14 +1,16 @@
 // The calls: the point of a symbol, of one of the signal point arrangement signal, the step of that signal's register, and the
 // points of a run of labels.
 ghost use Rattle.std.specs.Prelude.{◌≡◌};
+ghost use Rattle.refusal.specs.Answers.{number};
 ghost use Rattle.points.specs.Points.{point_of, arranged_of};
-ghost use Rattle.points.specs.Answers.{Answers, turned_answer, as_values, point_values, PointsMade};
-ghost use Rattle.points.specs.Numbers.{mapped_number, point_number, arranged_number, step_answer};
+ghost use Rattle.points.specs.Answers.{Answers, PointsMade};
+ghost use Rattle.points.specs.Numbers.{mapped_number, point_number, arranged_number, as_step, step_answer};
 
-use crate::mapping::{point_of, put_points, used_ok};
-use crate::numbers::{lent_number, points_number};
+use crate::Point;
+use crate::mapping::{Entries, put_points};
+use crate::numbers::{check_lent, check_points};
 use crate::turns::half_turn;
-use crate::{PointAnswer, PointValues, StepAnswer};
+use refusal::Refusal;
 
 // The width of the register of the signal point arrangement signal.
 const WIDTH: u32 = 15;
@@ -19,31 +21,19 @@ fn mapped(
     modulation: u32,
     label: u32,
     symbol: u32,
-    in_phase: &[f32],
-    quadrature: &[f32],
-) -> PointAnswer
-    ensures { Answers (mapped_number register modulation label symbol in_phase.now quadrature.now) (point_of modulation symbol in_phase.now quadrature.now label) result }
+    entries: Entries,
+) -> Result<Point, Refusal>
+    ensures { Answers (mapped_number register modulation label symbol entries.entry.in_phase.now entries.entry.quadrature.now) (point_of modulation symbol entries.entry.in_phase.now entries.entry.quadrature.now label) result }
 {
-    let number = lent_number(
-        modulation,
-        register,
-        symbol,
-        in_phase.len(),
-        quadrature.len(),
-        true,
-    );
-    if number != 0 {
-        return PointAnswer::Refused(number);
-    }
+    check_lent(modulation, register, symbol, entries, true)?;
     let at = label as usize;
-    if in_phase.len() <= at {
-        return PointAnswer::Refused(refusal::LABEL);
+    if entries.in_phase.len() <= at {
+        return Err(Refusal::Label);
     }
-    if used_ok(in_phase, quadrature, at) {
-        let p = point_of(modulation, symbol as usize, in_phase, quadrature, at);
-        return PointAnswer::At(p);
+    if !entries.used_ok(at) {
+        return Err(Refusal::Coordinate);
     }
-    PointAnswer::Refused(refusal::COORDINATE)
+    Ok(entries.point_of(modulation, symbol as usize, at))
 }
 
 // The point of a label, or the refusal.
@@ -53,28 +43,29 @@ pub fn point_of_label(
     symbol: u32,
     in_phase: &[f32],
     quadrature: &[f32],
-) -> PointAnswer
+) -> Result<Point, Refusal>
     ensures { Answers (point_number modulation label symbol in_phase.now quadrature.now) (point_of modulation symbol in_phase.now quadrature.now label) result }
 {
-    mapped(true, modulation, label, symbol, in_phase, quadrature)
+    let entries = Entries {
+        in_phase,
+        quadrature,
+    };
+    mapped(true, modulation, label, symbol, entries)
 }
 
-// The answer with its point turned by 180 degrees where the register gives 1.
-fn turned(register: u32, answer: PointAnswer) -> PointAnswer
-    ensures { result ≡ turned_answer register answer }
+// A point turned by 180 degrees where the register gives 1.
+#[tactic(auto, unfolding(crate::specs::Points::arranged_of, dispersal::specs::Register::top))]
+fn turned(register: u32, point: Point) -> Point
+    ensures { result ≡ arranged_of register point }
 {
-    match answer {
-        PointAnswer::At(p) => {
-            if register >> (WIDTH - 1) == 1 {
-                return PointAnswer::At(half_turn(p));
-            }
-            PointAnswer::At(p)
-        }
-        PointAnswer::Refused(n) => PointAnswer::Refused(n),
+    if register >> (WIDTH - 1) == 1 {
+        return half_turn(point);
     }
+    point
 }
 
 // The point of a label in the signal point arrangement signal, or the refusal.
+#[tactic(auto, using(crate::proofs::AnswerLaws::refusal_turned))]
 pub fn arranged_point(
     modulation: u32,
     label: u32,
@@ -83,80 +74,31 @@ pub fn arranged_point(
     quadrature: &[f32],
     mask: u32,
     register: u32,
-) -> PointAnswer
+) -> Result<Point, Refusal>
     ensures { Answers (arranged_number modulation label symbol in_phase.now quadrature.now mask register) (arranged_of register (point_of modulation symbol in_phase.now quadrature.now label)) result }
 {
     let sound = dispersal::settings_ok(WIDTH, mask, register);
-    let answer = mapped(sound, modulation, label, symbol, in_phase, quadrature);
-    turned(register, answer)
+    let entries = Entries {
+        in_phase,
+        quadrature,
+    };
+    let point = mapped(sound, modulation, label, symbol, entries)?;
+    Ok(turned(register, point))
 }
 
-// Number and coordinates of an answer.
-fn values_of(answer: PointAnswer) -> PointValues
-    ensures { result ≡ as_values answer }
+// The register of the signal point arrangement signal one step on, or the refusal.
+#[tactic(auto, unfolding(crate::specs::Numbers::step_answer))]
+pub fn arranged_step(mask: u32, register: u32) -> Result<u32, Refusal>
+    ensures { as_step result ≡ step_answer mask register }
 {
-    match answer {
-        PointAnswer::At(p) => PointValues {
-            number: 0,
-            i: p.i,
-            q: p.q,
-        },
-        PointAnswer::Refused(n) => PointValues {
-            number: n,
-            i: 0.0,
-            q: 0.0,
-        },
+    if !dispersal::settings_ok(WIDTH, mask, register) {
+        return Err(Refusal::Register);
     }
-}
-
-// The point of a label for a caller that takes no enum: number and coordinates.
-pub fn point_values(
-    modulation: u32,
-    label: u32,
-    symbol: u32,
-    in_phase: &[f32],
-    quadrature: &[f32],
-) -> PointValues
-    ensures { result ≡ point_values (point_number modulation label symbol in_phase.now quadrature.now) (point_of modulation symbol in_phase.now quadrature.now label) }
-{
-    values_of(point_of_label(modulation, label, symbol, in_phase, quadrature))
-}
-
-// The same in the signal point arrangement signal.
-pub fn arranged_values(
-    modulation: u32,
-    label: u32,
-    symbol: u32,
-    in_phase: &[f32],
-    quadrature: &[f32],
-    mask: u32,
-    register: u32,
-) -> PointValues
-    ensures { result ≡ point_values (arranged_number modulation label symbol in_phase.now quadrature.now mask register) (arranged_of register (point_of modulation symbol in_phase.now quadrature.now label)) }
-{
-    values_of(arranged_point(
-        modulation, label, symbol, in_phase, quadrature, mask, register,
-    ))
-}
-
-// The register of the signal point arrangement signal one step on, or 0 and the refusal.
-pub fn arranged_step(mask: u32, register: u32) -> StepAnswer
-    ensures { result ≡ step_answer mask register }
-{
-    if dispersal::settings_ok(WIDTH, mask, register) {
-        let next = dispersal::stepped(WIDTH, mask, register);
-        return StepAnswer {
-            number: 0,
-            register: next,
-        };
-    }
-    StepAnswer {
-        number: refusal::REGISTER,
-        register: 0,
-    }
+    Ok(dispersal::stepped(WIDTH, mask, register))
 }
 
 // The coordinates of the labels' points, the first label as symbol number `symbol`; a refusal leaves both areas as they were.
+#[tactic(auto, using(refusal::specs::AnswerLaws::refused_not_0))]
 pub fn points_of_labels(
     modulation: u32,
     symbol: u32,
@@ -165,21 +107,14 @@ pub fn points_of_labels(
     quadrature: &[f32],
     i: &mut [f32],
     q: &mut [f32],
-) -> u8
-    ensures { PointsMade modulation symbol labels.now in_phase.now quadrature.now i.old q.old result i.new q.new }
+) -> Result<(), Refusal>
+    ensures { PointsMade modulation symbol labels.now in_phase.now quadrature.now i.old q.old (number result) i.new q.new }
 {
-    let number = points_number(
-        modulation,
-        symbol,
-        labels,
+    let entries = Entries {
         in_phase,
         quadrature,
-        i.len(),
-        q.len(),
-    );
-    if number != 0 {
-        return number;
-    }
-    put_points(modulation, symbol, labels, in_phase, quadrature, i, q);
-    0
+    };
+    check_points(modulation, symbol, labels, entries, i.len(), q.len())?;
+    put_points(modulation, symbol, labels, entries, i, q);
+    Ok(())
 }

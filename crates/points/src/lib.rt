@@ -1,14 +1,17 @@
 // Signal points of labels: of one symbol, of one in the signal point arrangement signal, and of a run of symbols.
 #![tactic(auto)]
 
+ghost use Rattle.std.specs.Prelude.{◌≡◌};
+ghost use Rattle.points.specs.Answers.{as_values};
+ghost use Rattle.points.specs.Numbers.{as_step};
+
 mod calls;
 mod mapping;
 mod numbers;
 mod turns;
 
-pub use calls::{
-    arranged_point, arranged_step, arranged_values, point_of_label, point_values, points_of_labels,
-};
+pub use calls::{arranged_point, arranged_step, point_of_label, points_of_labels};
+use refusal::Refusal;
 
 // A signal point: its in-phase and its quadrature coordinate.
 #[derive(Clone, Copy)]
@@ -17,14 +20,8 @@ pub struct Point {
     pub q: f32,
 }
 
-// The point of a label, or the refusal.
-#[derive(Clone, Copy)]
-pub enum PointAnswer {
-    At(Point),
-    Refused(u8),
-}
-
-// The same for C, where an enum does not cross: the number, 0 or the refusal, and both coordinates, zeros by a refusal.
+// What a call on a label answers C, where a Result does not cross: the number, 0 or the refusal's, and both coordinates, zeros
+// by a refusal.
 #[repr(C)]
 #[derive(Clone, Copy)]
 pub struct PointValues {
@@ -33,10 +30,49 @@ pub struct PointValues {
     pub q: f32,
 }
 
-// What stepping the register of the arrangement signal answers: its number, 0 or the refusal, and the register after it.
+impl PointValues {
+    // Number and coordinates of what a call answers.
+    pub fn new(answer: Result<Point, Refusal>) -> PointValues
+        ensures { result ≡ as_values answer }
+    {
+        match answer {
+            Ok(point) => PointValues {
+                number: 0,
+                i: point.i,
+                q: point.q,
+            },
+            Err(refused) => PointValues {
+                number: refused.number(),
+                i: 0.0,
+                q: 0.0,
+            },
+        }
+    }
+}
+
+// What stepping the register of the arrangement signal answers C: the number, 0 or the refusal's, and the register after it, 0
+// by a refusal.
 #[repr(C)]
 #[derive(Clone, Copy)]
 pub struct StepAnswer {
     pub number: u8,
     pub register: u32,
+}
+
+impl StepAnswer {
+    // Number and register of what the call answers.
+    pub fn new(answer: Result<u32, Refusal>) -> StepAnswer
+        ensures { result ≡ as_step answer }
+    {
+        match answer {
+            Ok(register) => StepAnswer {
+                number: 0,
+                register,
+            },
+            Err(refused) => StepAnswer {
+                number: refused.number(),
+                register: 0,
+            },
+        }
+    }
 }

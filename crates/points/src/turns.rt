@@ -1,6 +1,5 @@
-// Points turned, and whether a coordinate is finite.
+// Points turned.
 ghost use Rattle.std.specs.Prelude.{◌≡◌};
-ghost use Rattle.std.specs.Float.Ieee.Scale.{finite};
 ghost use Rattle.points.specs.Points.{quarter_turn, half_turn};
 
 use crate::Point;
@@ -17,15 +16,4 @@ pub fn half_turn(p: Point) -> Point
     ensures { result ≡ half_turn p }
 {
     Point { i: -p.i, q: -p.q }
-}
-
-// Whether a coordinate is neither infinite nor a NaN, of which every comparison is false.
-pub fn is_finite(x: f32) -> bool
-    ensures { result ≡ finite x }
-{
-    let infinity = f32::from_bits(0x7f80_0000);
-    if x < infinity {
-        return -infinity < x;
-    }
-    false
 }

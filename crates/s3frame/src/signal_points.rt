@@ -6,6 +6,7 @@ ghost use Rattle.points.specs.Points.{point_of, arranged_of};
 
 use points::{PointValues, StepAnswer};
 
+#[tactic(auto, using(points::proofs::AnswerLaws::values_answered))]
 #[unsafe(no_mangle)]
 pub extern "C" fn s3_point(
     modulation: u32,
@@ -16,9 +17,10 @@ pub extern "C" fn s3_point(
 ) -> PointValues
     ensures { result ≡ point_values (point_number modulation label symbol in_phase.now quadrature.now) (point_of modulation symbol in_phase.now quadrature.now label) }
 {
-    points::point_values(modulation, label, symbol, in_phase, quadrature)
+    PointValues::new(points::point_of_label(modulation, label, symbol, in_phase, quadrature))
 }
 
+#[tactic(auto, using(points::proofs::AnswerLaws::values_answered))]
 #[unsafe(no_mangle)]
 pub extern "C" fn s3_arranged_point(
     modulation: u32,
@@ -31,16 +33,16 @@ pub extern "C" fn s3_arranged_point(
 ) -> PointValues
     ensures { result ≡ point_values (arranged_number modulation label symbol in_phase.now quadrature.now mask register) (arranged_of register (point_of modulation symbol in_phase.now quadrature.now label)) }
 {
-    points::arranged_values(
+    PointValues::new(points::arranged_point(
         modulation, label, symbol, in_phase, quadrature, mask, register,
-    )
+    ))
 }
 
 #[unsafe(no_mangle)]
 pub extern "C" fn s3_arranged_step(mask: u32, register: u32) -> StepAnswer
     ensures { result ≡ step_answer mask register }
 {
-    points::arranged_step(mask, register)
+    StepAnswer::new(points::arranged_step(mask, register))
 }
 
 #[unsafe(no_mangle)]
@@ -55,5 +57,7 @@ pub extern "C" fn s3_points(
 ) -> u8
     ensures { PointsMade modulation symbol labels.now in_phase.now quadrature.now i.old q.old result i.new q.new }
 {
-    points::points_of_labels(modulation, symbol, labels, in_phase, quadrature, i, q)
+    refusal::number(points::points_of_labels(
+        modulation, symbol, labels, in_phase, quadrature, i, q,
+    ))
 }

@@ -1,3 +1,4 @@
 pub mod Ready
 pub mod Strides
+pub mod Tests
 pub mod Turns

@@ -1,5 +1,5 @@
 -- One turn of the loops over one place of every label.
-use mathlib.Core.Path.{◌≡◌, refl, ap, ◌∙◌}
+use mathlib.Core.Path.{◌≡◌, ap, ◌∙◌}
 use mathlib.Core.Logic.{⊎_elim}
 use mathlib.Core.List.{List}
 use Prim.Native.Nat.{ℕ, ◌+◌, ◌*◌, ◌<◌, ◌≤◌}
@@ -26,9 +26,6 @@ column_small k s h l = mul-le-mul h l
 -- places of a stride are apart
 apart : (start step r n : ℕ) → 1 ≤ step → r < n → start + step * r ≡ start + step * n → ⊥
 apart start step r n l h e = omega (arith, next_step step r, mul-le-mul_left {m = r + 1} {n = n} step (omega arith))
-
-pub put_none : (f : ℕ → ℕ) (start step : ℕ) (found : List ℕ) → Put 0 f start step found found
-put_none f start step found = record { long = refl; there = λ r h. absurd (omega arith); others = λ j h. refl }
 
 -- one value more
 pub put_more : (n : ℕ) (f : ℕ → ℕ) (start step : ℕ) (found left : List ℕ) → 1 ≤ step → start + step * n < length found → Put n f start step found left

@@ -97,9 +97,6 @@ module _ (m s : ℕ) (leftward : Bool) where
     pub long : length bits ≡ m * s
     pub right : (r k : ℕ) → r < s → k < n → get_or bits (bit_at m s leftward r k) 0 ≡ get_or (digits m (get_or labels r 0)) k 0
 
-  pub placed_none : (labels bits : List ℕ) → length bits ≡ m * s → Placed labels 0 bits
-  placed_none labels bits l = record { long = l; right = λ r k p h. absurd (omega arith) }
-
   -- one place more: the bits put are those of weight 2^shift, which stand at place n where shift is m - 1 - n
   pub placed_more : (labels found left : List ℕ) (n shift : ℕ) → n < m → Placed labels n found
       → Put s (weighed labels shift) (bit_at m s leftward 0 n) (stride_of m) found left → shift ≡ m - 1 - n → Placed labels (n + 1) left

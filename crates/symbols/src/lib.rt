@@ -7,4 +7,4 @@ mod places;
 mod runs;
 
 pub use calls::{block_of_labels, labels_of_block, labels_of_slot, slot_of_labels};
-pub use numbers::label_number;
+pub use numbers::check_label;

@@ -5,14 +5,14 @@ use std::io;
 fn of_8psk(rt: &impl Print, name: &str, first: u8, slot: &mut [u8]) -> io::Result<()> {
     let mut labels = [7u8; 14960];
     labels[0] = first;
-    let number = symbols::slot_of_labels(3, 3, &labels, slot);
+    let number = refusal::number(symbols::slot_of_labels(3, 3, &labels, slot));
     line(rt, name, u64::from(number))
 }
 
 // The first label of a slot whose first bit alone is set.
 fn of_32apsk(rt: &impl Print, name: &str, rate: u32, slot: &[u8]) -> io::Result<()> {
     let mut labels = [0u8; 8976];
-    symbols::labels_of_slot(5, rate, slot, &mut labels);
+    let _ = symbols::labels_of_slot(5, rate, slot, &mut labels);
     line(rt, name, u64::from(labels[0]))
 }
 

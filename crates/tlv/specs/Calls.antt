@@ -1,9 +1,13 @@
 -- Numbers and answers of the two calls (document 02, N2).
-use Rattle.std.specs.Prelude.{Bool, ◌&&◌, ◌||◌, List, ◌++◌, ℕ, ◌/◌, ◌%◌, eqb, leb, ltb, length, get_or, drop}
+use Rattle.std.specs.Prelude.{Bool, ◌&&◌, ◌||◌, List, ◌++◌, ℕ, ◌/◌, ◌%◌, eqb, leb, ltb, length, get_or, drop, Result, Ok, Err}
 use Rattle.lists.specs.Choice.{pick, and_then}
 use Rattle.lists.specs.Count.{every}
 use Rattle.refusal.specs.Numbers.{PLAN, LENGTH, PACKET}
 use Rattle.plan.specs.Rates.{rate_ok, data_octets_of}
+use Rattle.refusal.specs.Answers.{number_of}
+use Rattle.refusal.specs.declared.Refusal.{Refusal}
+use Rattle.tlv.specs.declared.Filled.{Filled}
+use Rattle.tlv.specs.declared.Unpacked.{Unpacked}
 use Rattle.tlv.specs.declared.FillAnswer.{FillAnswer}
 use Rattle.tlv.specs.declared.ReadAnswer.{ReadAnswer}
 use Rattle.tlv.specs.Packets.{octets, packets_ok}
@@ -102,3 +106,12 @@ laid written found = written ++ drop (length written) found
 unfoldable pub read_packets : ℕ → List ℕ → List ℕ → List ℕ → ℕ → List ℕ → List ℕ
 read_packets rate slots begins lost f packets =
     pick (eqb (read_number rate slots begins lost f (length packets)) 0) (laid (reading_of rate slots begins lost f).written packets) packets
+
+-- what filling and reading answer, counts or a refusal, as the number and the counts
+abbrev pub as_fill : Result Filled Refusal → FillAnswer
+as_fill (Ok f) = record { number = 0; taken = f.taken; owed = f.owed }
+as_fill (Err r) = record { number = number_of r; taken = 0; owed = 0 }
+
+abbrev pub as_read : Result Unpacked Refusal → ReadAnswer
+as_read (Ok u) = record { number = 0; written = u.written; unfinished = u.unfinished }
+as_read (Err r) = record { number = number_of r; written = 0; unfinished = 0 }

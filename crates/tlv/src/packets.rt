@@ -8,43 +8,29 @@ use crate::NULL;
 const MARK: u8 = 0x7F;
 
 // Whether a type is known.
+#[tactic(auto, unfolding(crate::specs::Packets::type_ok))]
 fn type_ok(kind: u8) -> bool
     ensures { result ≡ type_ok kind }
 {
-    if kind == 0x01 {
-        return true;
-    }
-    if kind == 0x02 {
-        return true;
-    }
-    if kind == 0x03 {
-        return true;
-    }
-    if kind == 0xFE {
-        return true;
-    }
-    kind == NULL
+    matches!(kind, 0x01 | 0x02 | 0x03 | 0xFE | NULL)
 }
 
 // Whether the head at p is right.
+#[tactic(auto, unfolding(crate::specs::Packets::head_ok))]
 pub fn head_ok(lent: &[u8], p: usize) -> bool
     requires { p + 4 ≤ length lent.now }
     ensures { result ≡ head_ok (octets lent.now) p }
 {
-    if lent[p] != MARK {
-        return false;
-    }
-    type_ok(lent[p + 1])
+    lent[p] == MARK && type_ok(lent[p + 1])
 }
 
 // The octets of head and body.
+#[tactic(auto, unfolding(crate::specs::Packets::size_at))]
 pub fn size_at(lent: &[u8], p: usize) -> usize
     requires { p + 4 ≤ length lent.now }
     ensures { (result ≡ size_at (octets lent.now) p) × (result < 65540) }
 {
-    let high = lists::wide(lent[p + 2]);
-    let low = lists::wide(lent[p + 3]);
-    (4 + (256 * high + low)) as usize
+    4 + usize::from(u16::from_be_bytes([lent[p + 2], lent[p + 3]]))
 }
 
 // Whether a null's body is right; other bodies are.
@@ -52,16 +38,5 @@ pub fn body_ok(lent: &[u8], p: usize, size: usize) -> bool
     requires { (p + size ≤ length lent.now) × (size ≡ size_at (octets lent.now) p) × (4 ≤ size) }
     ensures { result ≡ body_ok (octets lent.now) p }
 {
-    if lent[p + 1] != NULL {
-        return true;
-    }
-    let mut i: usize = 0;
-    let body = size - 4;
-    while i < body {
-        if lent[p + 4 + i] != NULL {
-            return false;
-        }
-        i += 1;
-    }
-    true
+    lent[p + 1] != NULL || lent[p + 4..p + size].iter().all(|octet| *octet == NULL)
 }

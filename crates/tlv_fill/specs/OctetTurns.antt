@@ -31,8 +31,32 @@ filled_pieces packets taken owed m r within all =
     let e : (taken + (m + k) - length packets) ≡ k = omega arith in
     sent_behind packets (taken + (m + k)) (omega arith) ∙ ap (λ (x : ℕ). get_or filler (x % 4) 0) e)))
 
--- three pieces that were put one behind the other, m octets of packets as many as there are and as there is room for
+-- three pieces one behind the other, m octets of packets as many as there are and as there is room for
 module _ (packets : List ℕ) (taken owed m : ℕ) (slots : List ℕ) (needs : LayNeeds packets taken owed slots) (fewest : m ≡ min (length packets - taken) (length slots - owed)) where
+  pub pieces_filled : (a b d : List ℕ) (x z : ℕ)
+      → a ≡ table x (λ i. get_or filler ((4 - owed + i) % 4) 0) → x ≡ owed
+      → b ≡ part taken (taken + m) packets
+      → d ≡ table z (λ i. get_or filler ((0 + i) % 4) 0) → z ≡ length slots - (owed + m)
+      → a ++ (b ++ d) ≡ filled packets taken owed (length slots)
+  pieces_filled a b d x z ea ex eb ed ez =
+      let within = needs.within in
+      let few = needs.few in
+      let room = needs.room in
+      let r : ℕ = length slots - (owed + m) in
+      let all : owed + (m + r) ≡ length slots = omega arith in
+      let front : a ≡ run (octets filler) (4 - owed) owed
+      = ea ∙ ap (λ (n : ℕ). table n (λ i. get_or filler ((4 - owed + i) % 4) 0)) ex
+      ∙ table_same owed _ _ (λ k l. let e : (4 - owed + k) % 4 ≡ 4 - owed + k = omega arith in ap (λ (n : ℕ). get_or filler n 0) e) in
+      let back : d ≡ table r (λ i. get_or filler (i % 4) 0)
+      = ed ∙ ap (λ (n : ℕ). table n (λ i. get_or filler ((0 + i) % 4) 0)) ez
+      ∙ table_same r _ _ (λ k l. let e : 0 + k ≡ k = omega arith in ap (λ (n : ℕ). get_or filler (n % 4) 0) e) in
+      ap (λ (n : List ℕ). n ++ (b ++ d)) front
+      ∙ ap (λ (n : List ℕ). run (octets filler) (4 - owed) owed ++ (n ++ d)) eb
+      ∙ ap (λ (n : List ℕ). run (octets filler) (4 - owed) owed ++ (part taken (taken + m) packets ++ n)) back
+      ∙ sym (filled_pieces packets taken owed m r (omega arith) (λ h. omega arith))
+      ∙ ap (filled packets taken owed) all
+
+  -- the same of pieces that were put one behind the other
   pub laid_pieces : (a b d : List ℕ) (x z : ℕ)
       → a ≡ table x (λ i. get_or filler ((4 - owed + i) % 4) 0) → x ≡ owed
       → b ≡ part taken (taken + m) packets
@@ -43,20 +67,8 @@ module _ (packets : List ℕ) (taken owed m : ℕ) (slots : List ℕ) (needs : L
       let within = needs.within in
       let few = needs.few in
       let room = needs.room in
-      let r : ℕ = length slots - (owed + m) in
       let la : length a ≡ owed = ap length ea ∙ length_table x (λ i. get_or filler ((4 - owed + i) % 4) 0) ∙ ex in
       let lb : length b ≡ m = ap length eb ∙ length_part taken (taken + m) packets (omega arith) ∙ omega arith in
-      let ld : length d ≡ r = ap length ed ∙ length_table z (λ i. get_or filler ((0 + i) % 4) 0) ∙ ez in
-      let all : owed + (m + r) ≡ length slots = omega arith in
-      let front : a ≡ run (octets filler) (4 - owed) owed
-      = ea ∙ ap (λ (n : ℕ). table n (λ i. get_or filler ((4 - owed + i) % 4) 0)) ex
-      ∙ table_same owed _ _ (λ k l. let e : (4 - owed + k) % 4 ≡ 4 - owed + k = omega arith in ap (λ (n : ℕ). get_or filler n 0) e) in
-      let back : d ≡ table r (λ i. get_or filler (i % 4) 0)
-      = ed ∙ ap (λ (n : ℕ). table n (λ i. get_or filler ((0 + i) % 4) 0)) ez
-      ∙ table_same r _ _ (λ k l. let e : 0 + k ≡ k = omega arith in ap (λ (n : ℕ). get_or filler (n % 4) 0) e) in
+      let ld : length d ≡ length slots - (owed + m) = ap length ed ∙ length_table z (λ i. get_or filler ((0 + i) % 4) 0) ∙ ez in
       three_parts slots a b d owed (owed + m) (length slots) refl (omega arith) (omega arith) (la ∙ omega arith) (lb ∙ omega arith) ld
-      ∙ ap (λ (n : List ℕ). n ++ (b ++ d)) front
-      ∙ ap (λ (n : List ℕ). run (octets filler) (4 - owed) owed ++ (n ++ d)) eb
-      ∙ ap (λ (n : List ℕ). run (octets filler) (4 - owed) owed ++ (part taken (taken + m) packets ++ n)) back
-      ∙ sym (filled_pieces packets taken owed m r (omega arith) (λ h. omega arith))
-      ∙ ap (filled packets taken owed) all
+      ∙ pieces_filled a b d x z ea ex eb ed ez

@@ -1,5 +1,5 @@
 // The reports: where the first packet or filler of each slot begins.
-ghost use Rattle.std.specs.Prelude.{◌≡◌, ◌≤◌, ◌-◌, ltb, length};
+ghost use Rattle.std.specs.Prelude.{◌≡◌, ◌≤◌, ltb, length};
 ghost use Rattle.lists.specs.Choice.{pick};
 ghost use Rattle.tlv.specs.Fill.{reports};
 ghost use Rattle.tlv_fill.specs.Needs.{MarkNeeds};
@@ -12,6 +12,7 @@ fn first_begin(packets: &[u8], h: usize, target: usize) -> usize
     requires { AheadNeeds packets.now h target }
     ensures { Ahead packets.now target result × (target ≤ result) }
 {
+    // `at` goes on by each packet's own size, which no iterator gives.
     let mut at = h;
     while at < target {
         if packets.len() <= at {
@@ -22,25 +23,12 @@ fn first_begin(packets: &[u8], h: usize, target: usize) -> usize
     at
 }
 
-// a less b, 0 where b is more.
-pub fn beyond(a: usize, b: usize) -> usize
-    ensures { result ≡ a - b }
-{
-    if a < b {
-        return 0;
-    }
-    a - b
-}
-
 // A report: the octet in the slot, or none.
 fn report_of(rest: usize, size: usize) -> u16
     requires { size ≤ 65535 }
     ensures { result ≡ pick (ltb rest size) rest 65535 }
 {
-    if rest < size {
-        return rest as u16;
-    }
-    tlv::NONE
+    if rest < size { rest as u16 } else { tlv::NONE }
 }
 
 // The reports of all slots.
@@ -48,15 +36,12 @@ pub fn mark_begins(size: usize, packets: &[u8], taken: usize, owed: usize, begin
     requires { MarkNeeds size packets.now taken owed begins.old }
     ensures { begins.new ≡ reports size (length begins.old) packets.now taken owed }
 {
-    let mut k: usize = 0;
     let mut start: usize = 0;
     let mut h: usize = 0;
-    while k < begins.len() {
-        let target = taken + beyond(start, owed);
-        h = first_begin(packets, h, target);
+    for begin in begins.iter_mut() {
+        h = first_begin(packets, h, taken + start.saturating_sub(owed));
         let rest = (owed + (h - taken)) - start;
-        begins[k] = report_of(rest, size);
+        *begin = report_of(rest, size);
         start += size;
-        k += 1;
     }
 }

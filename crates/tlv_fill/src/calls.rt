@@ -1,77 +1,66 @@
 // The call: what it refuses, and what it fills.
 ghost use Rattle.std.specs.Prelude.{◌≡◌, length};
-ghost use Rattle.tlv.specs.Calls.{taken_ok, fill_lent, fill_number, fill_answer, fill_slots, fill_begins};
+ghost use Rattle.refusal.specs.Answers.{number};
+ghost use Rattle.tlv.specs.Calls.{taken_ok, fill_lent, fill_number, as_fill, fill_answer, fill_slots, fill_begins};
 
-use crate::begins::{beyond, mark_begins};
-use crate::octets::{fewer, lacking, lay};
+use crate::begins::mark_begins;
+use crate::octets::{lacking, lay};
 use crate::packets::packets_ok;
-use tlv::FillAnswer;
+use refusal::Refusal;
+use tlv::Filled;
 
 // Whether so many octets of the packets can have been taken, with so many of a filler owed.
+#[tactic(auto, unfolding(tlv::specs::Calls::taken_ok))]
 fn taken_ok(length: usize, taken: usize, owed: usize) -> bool
     ensures { result ≡ taken_ok length taken owed }
 {
-    if length < taken {
-        return false;
-    }
-    if 3 < owed {
-        return false;
-    }
-    if owed == 0 {
-        return true;
-    }
-    if taken == 0 {
-        return true;
-    }
-    taken == length
+    taken <= length && owed <= 3 && (owed == 0 || taken == 0 || taken == length)
 }
 
-// The refusal of an unknown rate or of what is lent, or 0, with the lengths of packets, slots and reports.
-fn lent_number(
+// The rate and what is lent, with the lengths of packets, slots and reports.
+#[tactic(auto, unfolding(tlv::specs::Calls::fill_lent))]
+fn check_lent(
     rate: u32,
     length: usize,
     taken: usize,
     owed: usize,
     octets: usize,
     reports: usize,
-) -> u8
-    ensures { result ≡ fill_lent rate length taken owed octets reports }
+) -> Result<(), Refusal>
+    ensures { number result ≡ fill_lent rate length taken owed octets reports }
 {
     if !plan::known(rate, plan::RATES) {
-        return refusal::PLAN;
+        return Err(Refusal::Plan);
     }
-    if !tlv::slots_ok(plan::data_octets(rate), octets, reports) {
-        return refusal::LENGTH;
+    let size = plan::data_octets(rate);
+    if tlv::slots_ok(size, octets, reports) && taken_ok(length, taken, owed) {
+        return Ok(());
     }
-    if taken_ok(length, taken, owed) {
-        return 0;
-    }
-    refusal::LENGTH
+    Err(Refusal::Length)
 }
 
-// The refusal of filling, or 0.
-fn fill_number(
+// What filling tests: what is lent, then the packets.
+#[tactic(auto, using(refusal::specs::AnswerLaws::refused_not_0), unfolding(tlv::specs::Calls::fill_number))]
+fn check_fill(
     rate: u32,
     packets: &[u8],
     taken: usize,
     owed: usize,
     slots: &[u8],
     begins: &[u16],
-) -> u8
-    ensures { result ≡ fill_number rate packets.now taken owed slots.now begins.now }
+) -> Result<(), Refusal>
+    ensures { number result ≡ fill_number rate packets.now taken owed slots.now begins.now }
 {
-    let number = lent_number(rate, packets.len(), taken, owed, slots.len(), begins.len());
-    if number != 0 {
-        return number;
+    check_lent(rate, packets.len(), taken, owed, slots.len(), begins.len())?;
+    if !packets_ok(packets) {
+        return Err(Refusal::Packet);
     }
-    if packets_ok(packets) {
-        return 0;
-    }
-    refusal::PACKET
+    Ok(())
 }
 
 // Fills slots with the packets from `taken` on and fillers behind them, and says where in each slot the first begins; a
 // refusal leaves slots and reports as they were.
+#[tactic(auto, using(refusal::specs::AnswerLaws::refused_not_0), unfolding(tlv::specs::Calls::fill_answer, tlv::specs::Calls::fill_slots, tlv::specs::Calls::fill_begins))]
 pub fn fill(
     rate: u32,
     packets: &[u8],
@@ -79,25 +68,17 @@ pub fn fill(
     owed: usize,
     slots: &mut [u8],
     begins: &mut [u16],
-) -> FillAnswer
-    ensures value { result ≡ fill_answer rate packets.now taken owed slots.old begins.old }
+) -> Result<Filled, Refusal>
+    ensures value { as_fill result ≡ fill_answer rate packets.now taken owed slots.old begins.old }
     ensures slots_after { slots.new ≡ fill_slots rate packets.now taken owed slots.old begins.old }
     ensures begins_after { begins.new ≡ fill_begins rate packets.now taken owed slots.old begins.old }
 {
-    let number = fill_number(rate, packets, taken, owed, slots, begins);
-    if number != 0 {
-        return FillAnswer {
-            number: number,
-            taken: 0,
-            owed: 0,
-        };
-    }
+    check_fill(rate, packets, taken, owed, slots, begins)?;
     let end = taken + (slots.len() - owed);
     lay(packets, taken, owed, slots);
     mark_begins(plan::data_octets(rate), packets, taken, owed, begins);
-    FillAnswer {
-        number: 0,
-        taken: fewer(packets.len(), end),
-        owed: lacking(beyond(end, packets.len())),
-    }
+    Ok(Filled {
+        taken: packets.len().min(end),
+        owed: lacking(end.saturating_sub(packets.len())),
+    })
 }

@@ -1,5 +1,5 @@
 // The octets of the slots: owed ones, those of packets, fillers.
-ghost use Rattle.std.specs.Prelude.{◌≡◌, ◌≤◌, ◌+◌, ◌-◌, ◌%◌, min, length, get_or};
+ghost use Rattle.std.specs.Prelude.{◌≡◌, ◌≤◌, ◌+◌, ◌-◌, ◌%◌, length, get_or};
 ghost use Rattle.lists.specs.Count.{table};
 ghost use Rattle.tlv.specs.Fill.{filler, filled, lacking};
 ghost use Rattle.tlv_fill.specs.Needs.{LayNeeds};
@@ -14,24 +14,14 @@ pub fn lacking(m: usize) -> usize
     (4 - m % 4) % 4
 }
 
-pub fn fewer(a: usize, b: usize) -> usize
-    ensures { result ≡ min a b }
-{
-    if a < b {
-        return a;
-    }
-    b
-}
-
 // Fillers without end, from octet `from` of the first on, as far as there is room.
 fn put_fillers(from: usize, to: &mut [u8])
     requires { from ≤ 4 }
     ensures { to.new ≡ table (length to.old) (λ i. get_or filler ((from + i) % 4) 0) }
 {
-    let mut i: usize = 0;
-    while i < to.len() {
-        to[i] = FILLER[(from + i) % 4];
-        i += 1;
+    // The remainder by 4 is a mask; `cycle` and `skip` would be no plainer.
+    for (i, octet) in to.iter_mut().enumerate() {
+        *octet = FILLER[(from + i) % 4];
     }
 }
 
@@ -40,11 +30,10 @@ pub fn lay(packets: &[u8], taken: usize, owed: usize, slots: &mut [u8])
     requires { LayNeeds packets.now taken owed slots.old }
     ensures { slots.new ≡ filled packets.now taken owed (length slots.old) }
 {
-    let total = slots.len();
-    let carried = fewer(packets.len() - taken, total - owed);
-    let end = taken + carried;
-    let behind = owed + carried;
-    put_fillers(4 - owed, &mut slots[0..owed]);
-    bits::copy(&packets[taken..end], &mut slots[owed..behind]);
-    put_fillers(0, &mut slots[behind..total]);
+    let carried = (packets.len() - taken).min(slots.len() - owed);
+    let (front, rest) = slots.split_at_mut(owed);
+    let (middle, back) = rest.split_at_mut(carried);
+    put_fillers(4 - owed, front);
+    middle.copy_from_slice(&packets[taken..taken + carried]);
+    put_fillers(0, back);
 }

@@ -6,20 +6,15 @@ ghost use Rattle.tlv.specs.Packets.{packets_ok};
 pub fn packets_ok(packets: &[u8]) -> bool
     ensures { result ≡ packets_ok packets.now }
 {
-    let total = packets.len();
+    // h goes on by each packet's own size, which no iterator gives.
     let mut h: usize = 0;
-    while h < total {
-        if total - h < 4 {
-            return false;
-        }
-        if !tlv::head_ok(packets, h) {
+    while h < packets.len() {
+        let rest = packets.len() - h;
+        if rest < 4 || !tlv::head_ok(packets, h) {
             return false;
         }
         let size = tlv::size_at(packets, h);
-        if total - h < size {
-            return false;
-        }
-        if !tlv::body_ok(packets, h, size) {
+        if rest < size || !tlv::body_ok(packets, h, size) {
             return false;
         }
         h += size;

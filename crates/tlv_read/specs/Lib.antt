@@ -1,4 +1,5 @@
 pub mod Needs
+pub mod Moves
 pub mod SlotTurns
 pub mod ReadTurns
 pub mod StepLaws

@@ -1,5 +1,5 @@
 -- What the functions ask of their arguments, and what they say of their results.
-use Rattle.std.specs.Prelude.{◌≡◌, Bool, true, ◌&&◌, List, [], ℕ, ◌*◌, ◌/◌, ◌<◌, ◌≤◌, eqb, length}
+use Rattle.std.specs.Prelude.{◌≡◌, Bool, true, ◌&&◌, List, [], ℕ, ◌*◌, ◌<◌, ◌≤◌, eqb, length}
 use Rattle.lists.specs.Choice.{pick}
 use Rattle.tlv.specs.declared.ReadAnswer.{ReadAnswer}
 use Rattle.tlv.specs.Packets.{run}
@@ -17,10 +17,6 @@ pub record Reported (D n : ℕ) (lost begins : List ℕ) : Type 0 where
   pub marked : Marked D n lost
   pub reports : length begins ≡ n
   pub inside : Inside D n begins
-
-pub record WholeNeeds (D n : ℕ) (lost begins : List ℕ) (s p : ℕ) : Type 0 where
-  pub reported : Reported D n lost begins
-  pub place : s ≡ p / D
 
 -- the step that a Move is: stop at `at`, or write `size` octets from p on and go on at `at`
 unfoldable pub moved : (ℕ → ℕ) → ℕ → Bool → ℕ → ℕ → Step
@@ -44,6 +40,11 @@ pub record Lent (D n : ℕ) (slots lost begins : List ℕ) (p : ℕ) : Type 0 wh
 pub record ReadNeeds (D n : ℕ) (slots lost begins : List ℕ) (p : ℕ) (area : List ℕ) : Type 0 where
   pub lent : Lent D n slots lost begins p
   pub place : length area ≡ length slots
+
+-- slots of D octets, end to end, with a mark and a report each
+pub record Lending (D : ℕ) (slots lost begins : List ℕ) : Type 0 where
+  pub reported : Reported D (length begins) lost begins
+  pub long : length slots ≡ D * length begins
 
 -- an answer that says the reading g, and the area that held `found`
 pub record ReadIs (g : Reading) (r : ReadAnswer) (found area : List ℕ) : Type 0 where

@@ -1,50 +1,55 @@
-// Lost slots and reported beginnings.
-ghost use Rattle.std.specs.Prelude.{◌≡◌};
+// The lent slots: lost ones, and reported beginnings.
+ghost use Rattle.std.specs.Prelude.{◌≡◌, ◌<◌, length, unwrap_or, IfSome};
 ghost use Rattle.tlv.specs.Read.{lost_from, on_from, start};
-ghost use Rattle.tlv_read.specs.Needs.{Marked, Reported};
+ghost use Rattle.tlv_read.specs.Needs.{Lending};
 
-// The first lost slot from `slot` on that begins before octet `to`, `count` where there is none.
-pub fn first_lost(size: usize, count: usize, lost: &[u8], slot: usize, to: usize) -> usize
-    requires { Marked size count lost.now }
-    ensures { result ≡ lost_from size count lost.now slot to }
-{
-    let mut k = slot;
-    while k < count {
-        if to <= size * k {
-            return count;
-        }
-        if lost[k] == 1 {
-            return k;
-        }
-        k += 1;
-    }
-    count
+// Slots of `size` octets, end to end, each with a lost mark and a report.
+#[derive(Clone, Copy)]
+pub struct Slots<'a> {
+    pub size: usize,
+    pub octets: &'a [u8],
+    pub lost: &'a [u8],
+    pub begins: &'a [u16],
+    pub ghost lending: { Lending size octets.now lost.now begins.now },
 }
 
-// The next reported beginning from `slot` on, the slots' length where there is none.
-pub fn next_begin(size: usize, count: usize, lost: &[u8], begins: &[u16], slot: usize) -> usize
-    requires { Reported size count lost.now begins.now }
-    ensures { result ≡ on_from size count lost.now begins.now slot }
-{
-    let mut k = slot;
-    while k < count {
-        if lost[k] != 1 {
-            if begins[k] != tlv::NONE {
-                return size * k + lists::index(begins[k]);
+impl Slots<'_> {
+    // The first lost slot from `slot` on that begins before octet `to`.
+    pub fn first_lost(self, slot: usize, to: usize) -> Option<usize>
+        ensures first { unwrap_or result (length self.entry.begins.now) ≡ lost_from self.entry.size (length self.entry.begins.now) self.entry.lost.now slot to }
+        ensures within { IfSome result (λ k. k < length self.entry.begins.now) }
+    {
+        for k in slot..self.begins.len() {
+            if to <= self.size * k {
+                return None;
+            }
+            if self.lost[k] == 1 {
+                return Some(k);
             }
         }
-        k += 1;
+        None
     }
-    size * count
-}
 
-// Where reading begins.
-pub fn start_at(size: usize, count: usize, lost: &[u8], begins: &[u16], first: usize) -> usize
-    requires { Reported size count lost.now begins.now }
-    ensures { result ≡ start size count lost.now begins.now first }
-{
-    if first == lists::index(tlv::NONE) {
-        return next_begin(size, count, lost, begins, 0);
+    // The next reported beginning from `slot` on, the slots' length where there is none.
+    pub fn next_begin(self, slot: usize) -> usize
+        ensures { result ≡ on_from self.entry.size (length self.entry.begins.now) self.entry.lost.now self.entry.begins.now slot }
+    {
+        for k in slot..self.begins.len() {
+            if self.lost[k] != 1 && self.begins[k] != tlv::NONE {
+                return self.size * k + usize::from(self.begins[k]);
+            }
+        }
+        self.octets.len()
     }
-    first
+
+    // Where reading begins.
+    #[tactic(auto, unfolding(tlv::specs::Read::start))]
+    pub fn start_at(self, first: usize) -> usize
+        ensures { result ≡ start self.entry.size (length self.entry.begins.now) self.entry.lost.now self.entry.begins.now first }
+    {
+        if first == usize::from(tlv::NONE) {
+            return self.next_begin(0);
+        }
+        first
+    }
 }

@@ -1,147 +1,105 @@
 // One step of reading, and steps until one stops.
-ghost use Rattle.std.specs.Prelude.{false, ◌≡◌, ◌+◌, ◌*◌, ◌<◌};
+ghost use Rattle.std.specs.Prelude.{◌≡◌, ◌+◌, ◌*◌, ◌/◌, ◌<◌, ◌≤◌, length, Ok};
+ghost use Rattle.tlv.specs.Calls.{as_read};
 ghost use Rattle.tlv.specs.Packets.{octets};
 ghost use Rattle.tlv.specs.Read.{on_from, step, read};
-ghost use Rattle.tlv_read.specs.Needs.{Reported, Whole, WholeNeeds, Lent, ReadNeeds, ReadIs, moved, kept_of};
+ghost use Rattle.tlv_read.specs.Needs.{ReadIs, kept_of};
+ghost use Rattle.tlv_read.specs.Moves.{made, Instead, goes_on};
 
-use crate::slots::{first_lost, next_begin};
-use tlv::ReadAnswer;
+use crate::slots::Slots;
+use tlv::Unpacked;
 
-// What a step does: stop at `at`; or write `size` octets, and go on there. Where octets were wanted and are `there`, it is
-// not decided yet.
+// What a step does: stop, where the unfinished one begins; or write so many octets, and go on at a place.
 #[derive(Clone, Copy)]
-pub struct Move {
-    pub there: bool,
-    pub ends: bool,
-    pub at: usize,
-    pub size: usize,
-}
-
-// Where the rest of a slot is lost, reading goes on at the next beginning that is reported behind it.
-fn behind(size: usize, count: usize, lost: &[u8], begins: &[u16], slot: usize) -> Move
-    requires { Reported size count lost.now begins.now × (slot < 9223372036854775808) }
-    ensures { (result.there ≡ false) × (result.ends ≡ false) × (result.at ≡ on_from size count lost.now begins.now (slot + 1)) × (result.size ≡ 0) }
-{
-    let at = next_begin(size, count, lost, begins, slot + 1);
-    Move {
-        there: false,
-        ends: false,
-        at: at,
-        size: 0,
-    }
-}
-
-// Whether the octets from p, in `slot`, to before `to` are all there and in sound slots, and what to do where they are not.
-fn whole(
-    size: usize,
-    count: usize,
-    lost: &[u8],
-    begins: &[u16],
-    slot: usize,
-    p: usize,
-    to: usize,
-) -> Move
-    requires { WholeNeeds size count lost.now begins.now slot p }
-    ensures { Whole size count lost.now begins.now p to result.there result.ends result.at result.size }
-{
-    let gone = first_lost(size, count, lost, slot, to);
-    if gone < count {
-        return behind(size, count, lost, begins, gone);
-    }
-    let past = size * count < to;
-    Move {
-        there: !past,
-        ends: past,
-        at: p,
-        size: 0,
-    }
+pub enum Move {
+    Stop(usize),
+    On { size: usize, at: usize },
 }
 
 // The octets of a packet that are written: none of an empty null.
 fn kept(kind: u8, size: usize) -> usize
     ensures { result ≡ kept_of kind size }
 {
-    if kind != tlv::NULL {
-        return size;
+    if kind == tlv::NULL && size == 4 {
+        return 0;
     }
-    if size != 4 {
-        return size;
-    }
-    0
+    size
 }
 
-// One step at position p.
-pub fn step_at(
-    size: usize,
-    count: usize,
-    slots: &[u8],
-    lost: &[u8],
-    begins: &[u16],
-    p: usize,
-) -> Move
-    requires { Lent size count slots.now lost.now begins.now p }
-    ensures { moved (octets slots.now) p result.ends result.at result.size ≡ step size count lost.now begins.now (octets slots.now) p }
-{
-    if p == slots.len() {
-        return Move {
-            there: false,
-            ends: true,
-            at: p,
-            size: 0,
-        };
+impl Slots<'_> {
+    // Where the rest of a slot is lost, reading goes on at the next beginning that is reported behind it.
+    fn behind(self, slot: usize) -> Move
+        requires { slot < 9223372036854775808 }
+        ensures { result ≡ goes_on (on_from self.entry.size (length self.entry.begins.now) self.entry.lost.now self.entry.begins.now (slot + 1)) }
+    {
+        let at = self.next_begin(slot + 1);
+        Move::On { size: 0, at }
     }
-    let slot = p / size;
-    let head = whole(size, count, lost, begins, slot, p, p + 4);
-    if !head.there {
-        return head;
-    }
-    if !tlv::head_ok(slots, p) {
-        return behind(size, count, lost, begins, slot);
-    }
-    let long = tlv::size_at(slots, p);
-    let body = whole(size, count, lost, begins, slot, p, p + long);
-    if !body.there {
-        return body;
-    }
-    if !tlv::body_ok(slots, p, long) {
-        return behind(size, count, lost, begins, slot);
-    }
-    Move {
-        there: false,
-        ends: false,
-        at: p + long,
-        size: kept(slots[p + 1], long),
-    }
-}
 
-// The reading from `from` on, written to the front of the packets' area.
-pub fn read_from(
-    size: usize,
-    count: usize,
-    slots: &[u8],
-    lost: &[u8],
-    begins: &[u16],
-    from: usize,
-    packets: &mut [u8],
-) -> ReadAnswer
-    requires { ReadNeeds size count slots.now lost.now begins.now from packets.old }
-    ensures { ReadIs (read size count lost.now begins.now (octets slots.now) (size * count) from) result packets.old packets.new }
-{
-    let mut p = from;
-    let mut w: usize = 0;
-    loop {
-        let step = step_at(size, count, slots, lost, begins, p);
-        if step.ends {
-            return ReadAnswer {
-                number: 0,
-                written: w,
-                unfinished: step.at,
-            };
+    // What to do instead where the octets from p, in `slot`, to before `to` are not all there and in sound slots.
+    fn whole(self, slot: usize, p: usize, to: usize) -> Option<Move>
+        requires { slot ≡ p / self.size }
+        ensures { Instead self.entry.size (length self.entry.begins.now) self.entry.lost.now self.entry.begins.now p to result }
+    {
+        if let Some(gone) = self.first_lost(slot, to) {
+            return Some(self.behind(gone));
         }
-        let end = p + step.size;
-        let to = w + step.size;
-        bits::copy(&slots[p..end], &mut packets[w..to]);
-        w = to;
-        p = step.at;
+        if self.octets.len() < to {
+            return Some(Move::Stop(p));
+        }
+        None
+    }
+
+    // One step at position p.
+    fn step_at(self, p: usize) -> Move
+        requires { p ≤ length self.octets.now }
+        ensures { made (octets self.entry.octets.now) p result ≡ step self.entry.size (length self.entry.begins.now) self.entry.lost.now self.entry.begins.now (octets self.entry.octets.now) p }
+    {
+        if p == self.octets.len() {
+            return Move::Stop(p);
+        }
+        let slot = p / self.size;
+        if let Some(instead) = self.whole(slot, p, p + 4) {
+            return instead;
+        }
+        if !tlv::head_ok(self.octets, p) {
+            return self.behind(slot);
+        }
+        let size = tlv::size_at(self.octets, p);
+        if let Some(instead) = self.whole(slot, p, p + size) {
+            return instead;
+        }
+        if !tlv::body_ok(self.octets, p, size) {
+            return self.behind(slot);
+        }
+        Move::On {
+            size: kept(self.octets[p + 1], size),
+            at: p + size,
+        }
+    }
+
+    // The reading from `from` on, written to the front of the packets' area.
+    pub fn read_from(self, from: usize, packets: &mut [u8]) -> Unpacked
+        requires within { from ≤ length self.octets.now }
+        requires place { length packets.old ≡ length self.octets.now }
+        ensures { ReadIs (read self.entry.size (length self.entry.begins.now) self.entry.lost.now self.entry.begins.now (octets self.entry.octets.now) (self.entry.size * length self.entry.begins.now) from) (as_read (Ok result)) packets.old packets.new }
+    {
+        let mut p = from;
+        let mut w: usize = 0;
+        loop {
+            match self.step_at(p) {
+                Move::Stop(at) => {
+                    return Unpacked {
+                        written: w,
+                        unfinished: at,
+                    };
+                }
+                Move::On { size, at } => {
+                    packets[w..w + size].copy_from_slice(&self.octets[p..p + size]);
+                    w += size;
+                    p = at;
+                }
+            }
+        }
     }
 }

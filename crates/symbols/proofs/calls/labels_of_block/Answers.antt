@@ -1,32 +1,22 @@
--- `symbols::labels_of_block`: the number decides between the block's labels and the area as found.
-use mathlib.Core.Path.{refl, sym, ◌∙◌}
+-- `symbols::labels_of_block`: where the call is accepted, the block's labels.
+use mathlib.Core.Path.{refl, sym}
 use Prim.Native.Nat.{ℕ}
 use lib.ListN.{length, replicate, length-replicate}
-use Rattle.refusal.specs.AnswerLaws.{refused, accepted}
+use Rattle.refusal.specs.AnswerLaws.{accepted}
 use Rattle.symbols.specs.CallLaws.{Lengths, block_ready}
 use Rattle.plan.specs.Sizes.{block_bits, block_octets}
 use Rattle.symbols.specs.Labels.{block_labels}
 use Rattle.symbols.proofs.Ready.{block_areas, labels_left}
-use Rattle.symbols.proofs.calls.labels_of_block.Goals.{Else-number-ne0}
-use Rattle.symbols.proofs.calls.labels_of_block.Lts.View.{up-Else-number-ne0}
 use Rattle.symbols.proofs.calls.labels_of_block.Goals as goal
-
--- what number 0 says
-ready : (c : Else-number-ne0) → Lengths block_octets block_labels (length c.args.block.now) (length c.args.labels.now)
-ready c = block_ready _ _ (sym c.block_number-number.ensures ∙ c.if-number-ne0.false)
-
-pub returns-then-number-ne0 : goal.returns-then-number-ne0
-returns-then-number-ne0 c = refused _ _ _ _ c.block_number-number.ensures c.if-number-ne0.true
 
 pub label_octets-requires : goal.label_octets-requires
 label_octets-requires c =
-    let b = c in
-    let a = b.args in
-    block_areas a.block.now (replicate block_bits 0) a.labels.now (ready (up-Else-number-ne0 _ _ _ c.before.before.before)) (length-replicate {A = ℕ} block_bits 0)
+    let ready : Lengths block_octets block_labels (length c.args.block.now) (length c.args.labels.now) = block_ready _ _ (sym c.in_ok-check_block.ensures) in
+    let a = c.args in
+    block_areas a.block.now (replicate block_bits 0) a.labels.now ready (length-replicate {A = ℕ} block_bits 0)
 
 pub returns : goal.returns
 returns c =
-    let w = c in
-    let b = w in
-    accepted _ _ _ _ (sym b.block_number-number.ensures ∙ b.if-number-ne0.false)
-    (labels_left 1 1 _ _ _ _ _ _ w.label_octets.ensures refl (ready (up-Else-number-ne0 _ _ _ c.before.before.before.before.before.before.before)).labels refl)
+    let ready : Lengths block_octets block_labels (length c.args.block.now) (length c.args.labels.now) = block_ready _ _ (sym c.in_ok-check_block.ensures) in
+    accepted _ _ _ _ (sym c.in_ok-check_block.ensures)
+    (labels_left 1 1 _ _ _ _ _ _ c.label_octets.ensures refl ready.labels refl)

@@ -1,32 +1,21 @@
--- `symbols::labels_of_slot`: the number decides between the slot's labels and the area as found.
-use mathlib.Core.Path.{refl, sym, ◌∙◌}
+-- `symbols::labels_of_slot`: where the call is accepted, the slot's labels.
+use mathlib.Core.Path.{refl, sym}
 use Prim.Native.Nat.{ℕ}
 use lib.ListN.{length, replicate, length-replicate}
-use Rattle.refusal.specs.AnswerLaws.{refused, accepted}
+use Rattle.refusal.specs.AnswerLaws.{accepted}
 use Rattle.plan.specs.Sizes.{slot_bits}
 use Rattle.symbols.specs.CallLaws.{SlotReady, slot_ready}
 use Rattle.symbols.proofs.Ready.{slot_areas, labels_left}
-use Rattle.symbols.proofs.calls.labels_of_slot.Goals.{Else-number-ne0}
-use Rattle.symbols.proofs.calls.labels_of_slot.Lts.View.{up-Else-number-ne0}
 use Rattle.symbols.proofs.calls.labels_of_slot.Goals as goal
-
--- what number 0 says
-ready : (c : Else-number-ne0)
-    → SlotReady c.args.modulation c.args.rate (length c.args.slot.now) (length c.args.labels.now)
-ready c = slot_ready _ _ _ _ (sym c.slot_number-number.ensures ∙ c.if-number-ne0.false)
-
-pub returns-then-number-ne0 : goal.returns-then-number-ne0
-returns-then-number-ne0 c = refused _ _ _ _ c.slot_number-number.ensures c.if-number-ne0.true
 
 pub label_octets-requires : goal.label_octets-requires
 label_octets-requires c =
-    let e = c in
-    let a = e.args in
-    slot_areas a.modulation a.rate a.modulation a.slot.now (replicate slot_bits 0) a.labels.now (ready (up-Else-number-ne0 _ _ _ c.before.before.before.before)) refl (length-replicate {A = ℕ} slot_bits 0)
+    let ready : SlotReady c.args.modulation c.args.rate (length c.args.slot.now) (length c.args.labels.now) = slot_ready _ _ _ _ (sym c.in_ok-check_slot.ensures) in
+    let a = c.args in
+    slot_areas a.modulation a.rate a.modulation a.slot.now (replicate slot_bits 0) a.labels.now ready refl (length-replicate {A = ℕ} slot_bits 0)
 
 pub returns : goal.returns
 returns c =
-    let w = c in
-    let b = w in
-    accepted _ _ _ _ (sym b.slot_number-number.ensures ∙ b.if-number-ne0.false)
-    (labels_left _ _ _ _ _ _ _ _ w.label_octets.ensures refl (ready (up-Else-number-ne0 _ _ _ c.before.before.before.before.before.before.before.before)).lengths.labels w.right_to_left.ensures)
+    let ready : SlotReady c.args.modulation c.args.rate (length c.args.slot.now) (length c.args.labels.now) = slot_ready _ _ _ _ (sym c.in_ok-check_slot.ensures) in
+    accepted _ _ _ _ (sym c.in_ok-check_slot.ensures)
+    (labels_left _ _ _ _ _ _ _ _ c.label_octets.ensures refl ready.lengths.labels c.right_to_left-leftward.ensures)

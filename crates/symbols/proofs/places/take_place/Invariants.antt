@@ -1,8 +1,7 @@
 -- `symbols::take_place`: the area is filled with the labels that have one bit more, each read before it is replaced.
 use mathlib.Core.Path.{◌≡◌}
 use mathlib.Core.List.{List}
-use Prim.Native.Nat.{ℕ, ◌+◌, ◌*◌, ◌-◌}
-use lib.ListN.{length}
+use Prim.Native.Nat.{ℕ, ◌+◌, ◌*◌}
 use Rattle.lists.specs.Filling.{Filling}
 use Rattle.symbols.specs.Needs.{grown}
 use Rattle.symbols.proofs.places.take_place.Given as goal
@@ -11,8 +10,5 @@ pub record Inv (bits : List ℕ) (start step : ℕ) (found labels : List ℕ) (r
   pub place : at ≡ start + step * r
   pub filling : Filling (grown bits start step found) found r labels
 
-abbrev pub invariant-loop-r : goal.invariant-loop-r
-invariant-loop-r l = Inv l.bits l.start l.step l.initial.labels l.labels l.r l.at
-
-abbrev pub decreases-loop-r : goal.decreases-loop-r
-decreases-loop-r l = length l.initial.labels - l.r
+abbrev pub invariant-loop-label : goal.invariant-loop-label
+invariant-loop-label l = Inv l.bits l.start l.step l.initial.labels l.labels l.label-index l.at

@@ -2,7 +2,7 @@
 use mathlib.Core.Path.{◌≡◌}
 use mathlib.Core.Bool.{Bool}
 use mathlib.Core.List.{List}
-use Prim.Native.Nat.{ℕ, ◌-◌, ◌≤◌}
+use Prim.Native.Nat.{ℕ, ◌≤◌}
 use lib.ListN.{length}
 use Rattle.symbols.specs.Index.{stride_of}
 use Rattle.symbols.proofs.Turns.{labels_to}
@@ -16,6 +16,3 @@ pub record Inv (m : ℕ) (leftward : Bool) (run found : List ℕ) (step : ℕ) (
 
 abbrev pub invariant-loop-place : goal.invariant-loop-place
 invariant-loop-place l = Inv l.modulation l.leftward l.run l.initial.labels l.step l.labels l.place
-
-abbrev pub decreases-loop-place : goal.decreases-loop-place
-decreases-loop-place l = l.modulation - l.place

@@ -2,7 +2,7 @@
 use mathlib.Core.Path.{◌≡◌}
 use mathlib.Core.Bool.{Bool}
 use mathlib.Core.List.{List}
-use Prim.Native.Nat.{ℕ, ◌-◌, ◌≤◌}
+use Prim.Native.Nat.{ℕ, ◌≤◌}
 use lib.ListN.{length}
 use Rattle.symbols.specs.Index.{stride_of}
 use Rattle.symbols.proofs.Turns.{Placed}
@@ -15,6 +15,3 @@ pub record Inv (m : ℕ) (leftward : Bool) (labels : List ℕ) (step : ℕ) (run
 
 abbrev pub invariant-loop-place : goal.invariant-loop-place
 invariant-loop-place l = Inv l.modulation l.leftward l.labels l.step l.run l.place
-
-abbrev pub decreases-loop-place : goal.decreases-loop-place
-decreases-loop-place l = l.modulation - l.place

@@ -7,21 +7,15 @@ use Rattle.symbols.specs.LabelLaws.{length_label_bits, label_bits_bits}
 use Rattle.symbols.proofs.runs.unlabel_octets.Goals as goal
 
 pub collect-requires : goal.collect-requires
-collect-requires c =
-    let x = c in
-    let s = x in
-    let a = s.args in
+collect-requires g c =
+    let a = c.args in
     let u = a.labels.now in
-    let e = x.unlabel_bits.ensures in
+    let e = c.unlabel_bits.ensures in
     record {
-      eights = ap length e ∙ length_label_bits a.modulation (length u) a.leftward u ∙ sym s.requires.shared.long ∙ s.requires.eights;
+      eights = ap length e ∙ length_label_bits a.modulation (length u) a.leftward u ∙ sym c.requires.shared.long ∙ c.requires.eights;
       bits = rw e (label_bits_bits a.modulation (length u) a.leftward u);
     }
 
 pub returns : goal.returns
 unfolding octets_of_labels
-returns c =
-    let y = c in
-    let x = y in
-    let a = x.args in
-    y.collect.ensures ∙ ap (octets_of (length a.octets.now)) x.unlabel_bits.ensures
+returns g c = c.collect.ensures ∙ ap (octets_of (length c.args.octets.now)) c.unlabel_bits.ensures

@@ -1,5 +1,4 @@
 -- `tlv_fill::begins::first_begin`: nothing begins between the target and the place reached.
-use Prim.Native.Nat.{◌-◌}
 use native.Mathlib.Omega.{arith}
 use borrow.Author.Rules.{rules}
 use Rattle.tlv.specs.PacketLaws.{size_least}

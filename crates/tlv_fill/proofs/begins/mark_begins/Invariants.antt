@@ -28,8 +28,5 @@ found packets taken owed start target h w e a l = record { from = omega arith; n
     go (yes m) = let n = a.near m in omega arith
     go (no m) = omega arith
 
-abbrev pub invariant-loop-k : goal.invariant-loop-k
-invariant-loop-k l = Inv l.size l.packets l.taken l.owed l.initial.begins l.begins l.k l.start l.h
-
-abbrev pub decreases-loop-k : goal.decreases-loop-k
-decreases-loop-k l = length l.initial.begins - l.k
+abbrev pub invariant-loop-begin : goal.invariant-loop-begin
+invariant-loop-begin l = Inv l.size l.packets l.taken l.owed l.initial.begins l.begins l.begin-index l.start l.h

@@ -1,7 +1,0 @@
--- `points::arranged_values`: number and values of the answer are those that it has.
-use mathlib.Core.Path.{◌∙◌}
-use Rattle.points.proofs.AnswerLaws.{values_answered}
-use Rattle.points.proofs.calls.arranged_values.Goals as goal
-
-pub returns : goal.returns
-returns c = c.values_of.ensures ∙ values_answered _ _ _ c.arranged_point.ensures
