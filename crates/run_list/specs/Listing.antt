@@ -1,9 +1,11 @@
 -- The list that plan-list prints (document 01, "Worked by hand").
-use Rattle.std.specs.Prelude.{Bool, true, false, List, [], ◌∷◌, ◌++◌, ℕ, ◌-◌, eqb, leb}
+use Rattle.std.specs.Prelude.{Bool, true, false, List, [], ◌∷◌, ◌++◌, ℕ, ◌-◌, eqb, leb, length, Result, Ok, Err}
 use Rattle.lists.specs.Choice.{pick}
 use Rattle.lists.specs.Count.{sum, joined}
+use Rattle.refusal.specs.Answers.{number_of}
+use Rattle.refusal.specs.declared.Refusal.{Refusal}
 use Rattle.plan.specs.declared.Plan.{Plan}
-use Rattle.plan.specs.Plans.{modulation_of, rate_of, slots_of, data_slots_of}
+use Rattle.plan.specs.Plans.{modulation_of, rate_of, slots_of, data_slots_of, plan_number}
 use Rattle.plan.specs.Places.{run_first, run_last}
 use Rattle.texts.specs.Characters.{LINE-FEED}
 use Rattle.texts.specs.Decimals.{decimal, field}
@@ -52,6 +54,20 @@ total_line d u = total_word ++ (field d ++ (data_word ++ (field u ++ kind_word f
 
 unfoldable pub list_text : Plan → List ℕ
 list_text p = heading ++ (joined p.count (group_text p) ++ total_line (data_total p) (dummy_total p))
+
+-- what writing a list answers: 0 and how many octets it takes, or the refusal and 0
+pub record Listed : Type 0 where
+  pub number : ℕ
+  pub length : ℕ
+
+-- writing the list: the plan's refusal, or 0 and how many octets it takes
+unfoldable pub listed : Plan → Listed
+listed p = record { number = plan_number p; length = pick (eqb (plan_number p) 0) (length (list_text p)) 0 }
+
+-- a length or a refusal, as these two numbers
+abbrev pub as_listed : Result ℕ Refusal → Listed
+as_listed (Ok n) = record { number = 0; length = n }
+as_listed (Err r) = record { number = number_of r; length = 0 }
 
 -- "refused "
 unfoldable pub refused_word : List ℕ

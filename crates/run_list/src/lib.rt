@@ -1,42 +1,42 @@
 // The list of a plan's runs, written, and the whole answer of plan-list.
 #![tactic(auto)]
 
-ghost use Rattle.std.specs.Prelude.{[], ◌≡◌, IfOk, eqb, leb, length};
+ghost use Rattle.std.specs.Prelude.{[], ◌≡◌, eqb, leb, length};
 ghost use Rattle.lists.specs.Choice.{pick};
 ghost use Rattle.lists.specs.Count.{joined};
 ghost use Rattle.lists.specs.Parts.{put};
 ghost use Rattle.plan.specs.Plans.{plan_number};
-ghost use Rattle.refusal.specs.Answers.{number};
 ghost use Rattle.texts.specs.Needs.{Number};
 ghost use Rattle.texts.specs.Written.{Written};
-ghost use Rattle.run_list.specs.Listing.{run_line, group_text, data_total, total_line, list_text, refused_text, answer_text};
+ghost use Rattle.run_list.specs.Listing.{run_line, group_text, data_total, total_line, list_text, listed, as_listed, refused_text, answer_text};
 ghost use Rattle.run_list.specs.Needs.{Taken, RunLine, GroupLines, PlanLines, Totals, ListArea};
 
 use plan::Plan;
 use refusal::Refusal;
 use texts::{put_decimal, put_field, put_text};
 
-// The line of a run, which a run without slots has not.
-#[tactic(auto, using(texts::specs::DecimalLaws::length_field))]
-fn write_run(
-    out: &mut [u8],
-    at: usize,
+// The slots of a run, from the first to the last, with their group's modulation and rate.
+#[derive(Clone, Copy)]
+struct Run {
     from: usize,
     to: usize,
     modulation: usize,
     rate: usize,
-    word: &[u8],
-) -> usize
-    requires { RunLine from to modulation rate at word.now out.old }
-    ensures { Written (pick (leb from to) (run_line from to modulation rate word.now) []) at out.old out.new result }
+}
+
+// The line of a run, which a run without slots has not.
+#[tactic(auto, using(texts::specs::DecimalLaws::length_field))]
+fn write_run(out: &mut [u8], at: usize, run: Run, word: &[u8]) -> usize
+    requires { RunLine run.from run.to run.modulation run.rate at word.now out.old }
+    ensures { Written (pick (leb run.from run.to) (run_line run.from run.to run.modulation run.rate word.now) []) at out.old out.new result }
 {
-    if to < from {
+    if run.to < run.from {
         return at;
     }
-    let last = put_field(out, at, from);
-    let third = put_field(out, last, to);
-    let fourth = put_field(out, third, modulation);
-    let fifth = put_field(out, fourth, rate);
+    let last = put_field(out, at, run.from);
+    let third = put_field(out, last, run.to);
+    let fourth = put_field(out, third, run.modulation);
+    let fifth = put_field(out, fourth, run.rate);
     put_text(out, fifth, word)
 }
 
@@ -50,9 +50,20 @@ fn write_group(out: &mut [u8], at: usize, plan: Plan, g: usize, passed: usize) -
     let modulation = usize::from(plan.modulation[g]);
     let rate = usize::from(plan.rate[g]);
     let filled = passed + plan::data_slots(plan, g);
-    let end = passed + slots;
-    let next = write_run(out, at, passed + 1, filled, modulation, rate, b"data\n");
-    write_run(out, next, filled + 1, end, modulation, rate, b"dummy\n")
+    let carried = Run {
+        from: passed + 1,
+        to: filled,
+        modulation,
+        rate,
+    };
+    let dummies = Run {
+        from: filled + 1,
+        to: passed + slots,
+        modulation,
+        rate,
+    };
+    let next = write_run(out, at, carried, b"data\n");
+    write_run(out, next, dummies, b"dummy\n")
 }
 
 #[tactic(auto, using(crate::proofs::Sizes::sizes))]
@@ -115,10 +126,9 @@ fn write_refusal(out: &mut [u8], number: usize) -> usize
 }
 
 // Writes the list of a plan and answers how many octets it takes, or the plan's refusal, with the area as it was.
-#[tactic(auto, using(refusal::specs::AnswerLaws::refused_not_0))]
+#[tactic(auto, using(refusal::specs::AnswerLaws::refused_not_0), unfolding(crate::specs::Listing::listed))]
 pub fn write_list(plan: Plan, out: &mut [u8; 512]) -> Result<usize, Refusal>
-    ensures refusal { number result ≡ plan_number plan }
-    ensures value { IfOk result (λ n. n ≡ length (list_text plan)) }
+    ensures value { as_listed result ≡ listed plan }
     ensures out_after { out.new ≡ pick (eqb (plan_number plan) 0) (put 0 (list_text plan) out.old) out.old }
 {
     plan::check_plan(plan)?;
