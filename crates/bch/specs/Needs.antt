@@ -1,6 +1,7 @@
 -- What the functions ask of their arguments.
 use Rattle.std.specs.Prelude.{◌≡◌, List, ℕ, ◌<◌, length}
 use Rattle.lists.specs.Runs.{Bits}
+use Rattle.bch.specs.declared.division.Words.{Words}
 use Rattle.bch.specs.Words.{Table}
 
 -- a message of bits, and an area for its BCH bits
@@ -9,12 +10,12 @@ pub record Message (run bch : List ℕ) : Type 0 where
   pub area : length bch ≡ 192
 
 -- the table, and an octet
-pub record Entry (t : List ℕ) (octet : ℕ) : Type 0 where
+pub record Entry (t : List Words) (octet : ℕ) : Type 0 where
   pub table : Table t
   pub within : octet < 256
 
 -- the table, and a run of bits
-pub record Divided (t run : List ℕ) : Type 0 where
+pub record Divided (t : List Words) (run : List ℕ) : Type 0 where
   pub table : Table t
   pub bits : Bits run
 

@@ -21,27 +21,14 @@ pub const NONE: Words = Words {
     low: 0,
 };
 
-// The remainder of eight bits as a message.
-fn entry(table: &[u64; 768], octet: usize) -> Words
-    requires { Entry table.now octet }
-    ensures { worth result ≡ remainder 192 generator 8 (octet * 2 ^ 192) }
-{
-    let at = 3 * octet;
-    Words {
-        high: table[at],
-        middle: table[at + 1],
-        low: table[at + 2],
-    }
-}
-
 // The remainder of a message with eight bits more behind it, from the remainder before them. The eight terms that
 // the shift moves out at the top are divided together with the new bits.
-pub fn advance(table: &[u64; 768], rest: Words, octet: u64) -> Words
+pub fn advance(table: &[Words; 256], rest: Words, octet: u64) -> Words
     requires { Entry table.now octet }
     ensures { worth result ≡ remainder 192 generator 8 (worth rest * 2 ^ 8 ⊕ octet * 2 ^ 192) }
 {
     let out = (rest.high >> 56) ^ octet;
-    let taken = entry(table, out as usize);
+    let taken = table[out as usize];
     Words {
         high: ((rest.high << 8) ^ (rest.middle >> 56)) ^ taken.high,
         middle: ((rest.middle << 8) ^ (rest.low >> 56)) ^ taken.middle,

@@ -12,31 +12,27 @@ use crate::division::Words;
 use crate::{division, table};
 
 // The remainder of a message of octets.
-fn divide_octets(table: &[u64; 768], octets: &[u8]) -> Words
+fn divide_octets(table: &[Words; 256], octets: &[u8]) -> Words
     requires { Table table.now }
     ensures { worth result ≡ remainder_of 192 generator (bits_of octets.now) }
 {
     let mut rest = division::NONE;
-    let mut i: usize = 0;
-    while i < octets.len() {
-        rest = division::advance(table, rest, lists::wide(octets[i]));
-        i += 1;
+    for octet in octets {
+        rest = division::advance(table, rest, u64::from(*octet));
     }
     rest
 }
 
 // The remainder of a message of bits. The bits before the whole eights, less than eight, go first, as the low bits
 // of an octet: zeros in front of a message change nothing.
-fn divide_bits(table: &[u64; 768], run: &[u8]) -> Words
+fn divide_bits(table: &[Words; 256], run: &[u8]) -> Words
     requires { Divided table.now run.now }
     ensures { worth result ≡ remainder_of 192 generator run.now }
 {
-    let mut at = run.len() % 8;
-    let mut rest = division::advance(table, division::NONE, bits::gather(&run[0..at]));
-    while at < run.len() {
-        let end = at + 8;
-        rest = division::advance(table, rest, bits::gather(&run[at..end]));
-        at = end;
+    let (few, eights) = run.split_at(run.len() % 8);
+    let mut rest = division::advance(table, division::NONE, bits::gather(few));
+    for eight in eights.chunks_exact(8) {
+        rest = division::advance(table, rest, bits::gather(eight));
     }
     rest
 }

@@ -1,4 +1,5 @@
-// Numbers and octets as bits, highest first.
+// Numbers and octets as bits, highest first. Bits are stored by index: of what is written through iter_mut().rev() or
+// chunks_exact_mut a proof knows the length alone.
 ghost use Rattle.std.specs.Prelude.{◌≡◌, ◌*◌, length};
 ghost use Rattle.bits.specs.Digits.{digits, number};
 ghost use Rattle.bits.specs.Octets.{bits_of, octets_of};
@@ -9,11 +10,9 @@ pub fn spread(x: u64, bits: &mut [u8])
     ensures { bits.new ≡ digits (length bits.old) x }
 {
     let mut rest = x;
-    let mut k = bits.len();
-    while 0 < k {
-        k -= 1;
+    for k in (0..bits.len()).rev() {
         bits[k] = (rest % 2) as u8;
-        rest = rest / 2;
+        rest /= 2;
     }
 }
 
@@ -23,10 +22,8 @@ pub fn gather(bits: &[u8]) -> u64
     ensures { result ≡ number (length bits.now) bits.now }
 {
     let mut made: u64 = 0;
-    let mut k: usize = 0;
-    while k < bits.len() {
-        made = made * 2 + lists::wide(bits[k]);
-        k += 1;
+    for bit in bits {
+        made = made * 2 + u64::from(*bit);
     }
     made
 }
@@ -36,13 +33,8 @@ pub fn expand(octets: &[u8], bits: &mut [u8])
     requires { length bits.old ≡ 8 * length octets.now }
     ensures { bits.new ≡ bits_of octets.now }
 {
-    let mut i: usize = 0;
-    let mut at: usize = 0;
-    while i < octets.len() {
-        let end = at + 8;
-        spread(lists::wide(octets[i]), &mut bits[at..end]);
-        at = end;
-        i += 1;
+    for (i, octet) in octets.iter().enumerate() {
+        spread(u64::from(*octet), &mut bits[8 * i..8 * i + 8]);
     }
 }
 
@@ -51,12 +43,7 @@ pub fn collect(bits: &[u8], octets: &mut [u8])
     requires { Packed bits.now octets.old }
     ensures { octets.new ≡ octets_of (length octets.old) bits.now }
 {
-    let mut i: usize = 0;
-    let mut at: usize = 0;
-    while i < octets.len() {
-        let end = at + 8;
-        octets[i] = (gather(&bits[at..end]) % 256) as u8;
-        at = end;
-        i += 1;
+    for (i, eight) in bits.chunks_exact(8).enumerate() {
+        octets[i] = gather(eight) as u8;
     }
 }

@@ -1,15 +1,18 @@
 -- Laws of what is answered of a received word: a number that is tested before the word itself is read is none of 8 and 9, so no
 -- position is told beside it; beside 8 it is the lowest failing one.
 use Rattle.std.specs.Prelude.{◌≡◌, refl, Bool, true, ◌||◌, List, ℕ, ltb}
-use Rattle.std.proofs.Common.{sym, ap, ◌∙◌, inl, inr, eq-eqb, ne_eqb}
+use Rattle.std.proofs.Common.{arith, sym, ap, ◌∙◌, inl, inr, eq-eqb, ne_eqb}
 use Rattle.std.proofs.lemmas.Bool.{false≢true}
 use Rattle.std.proofs.Math.Decide.{ℕ_discrete}
 use Rattle.lists.specs.Choice.{pick, and_then}
 use Rattle.lists.specs.ChoiceLaws.{pick_each, then_each, then_first, then_next}
 use Rattle.refusal.specs.Numbers.{PARITY, BCH}
+use Rattle.refusal.specs.Answers.{number_of}
+use Rattle.refusal.specs.declared.Refusal.{Refusal}
+use Rattle.refusal.specs.declared.Refusal.TheVariants.{Plan, Dummy, Full, Length, Table, Register, Sync, Parity, Bch, Tail, Label, Value, Order, Total, Packet, Block, Coordinate}
 use Rattle.codeword.specs.declared.Shape.{Shape}
 use Rattle.codeword.specs.declared.WordAnswer.{WordAnswer}
-use Rattle.codeword.specs.Reading.{wrong_position, parity_number, no_position, position_with, word_answer, OfWord, PositionTold}
+use Rattle.codeword.specs.Reading.{wrong_position, parity_number, no_position, position_of, position_with, word_answer, OfWord, PositionTold}
 use Rattle.codeword.proofs.ReadingLaws.{failing_there}
 
 -- an answer is its number and its position
@@ -46,6 +49,26 @@ earlier_none a b h m = go (ℕ_discrete a 0)
 -- and a position is told beside none of them
 pub earlier_position : (n p : ℕ) → Earlier n → (n ≡ 0 → ⊥) → position_with n p ≡ no_position
 earlier_position n p h z = rw (ne_eqb n PARITY (λ e. z (h (inr (inl e)))))
+
+-- so no refusal of such a number carries one
+pub earlier_told : (r : Refusal) → Earlier (number_of r) → position_of r ≡ no_position
+earlier_told (Parity p) h = let z : PARITY ≡ 0 = h (inr (inl refl)) in absurd (omega arith)
+earlier_told Plan h = refl
+earlier_told Dummy h = refl
+earlier_told Full h = refl
+earlier_told Length h = refl
+earlier_told Table h = refl
+earlier_told Register h = refl
+earlier_told Sync h = refl
+earlier_told Bch h = refl
+earlier_told Tail h = refl
+earlier_told Label h = refl
+earlier_told Value h = refl
+earlier_told Order h = refl
+earlier_told Total h = refl
+earlier_told Packet h = refl
+earlier_told Block h = refl
+earlier_told Coordinate h = refl
 
 -- what is answered where such a number refuses, and where it does not
 pub answer_refused : (a b p : ℕ) → Earlier a → (a ≡ 0 → ⊥) → word_answer (and_then a b) p ≡ record { number = a; position = no_position }

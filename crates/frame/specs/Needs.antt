@@ -1,9 +1,8 @@
 -- What the functions ask of their arguments, and what they leave.
-use Rattle.std.specs.Prelude.{◌≡◌, true, List, ℕ, ◌≤◌, length, get_or}
+use Rattle.std.specs.Prelude.{◌≡◌, true, List, ℕ, ◌+◌, ◌<◌, ◌≤◌, length, get_or}
 use Rattle.plan.specs.Records.{plan_in}
 use Rattle.plan.specs.declared.Plan.{Plan}
 use Rattle.plan.specs.declared.FrameState.{FrameState}
-use Rattle.plan.specs.Plans.{plan_number}
 use Rattle.plan.specs.Needs.{Ready}
 use Rattle.frame.specs.Tables.{table_from, tables_ok}
 use Rattle.frame.specs.Frames.{octets_of_slot, source_from}
@@ -21,10 +20,11 @@ pub record Lent (p : Plan) (mask start : ℕ) (ts : List ℕ) (source frame : �
 abbrev pub Ends : Plan → List ℕ → List ℕ → Type 0
 Ends p ts ends = (g : ℕ) → g ≤ p.count → get_or ends g 0 ≡ table_from p ts g
 
--- an accepted plan, and a place for the ends of up to eight tables
-pub record Found (p : Plan) (ends : List ℕ) : Type 0 where
-  pub plan : plan_number p ≡ 0
-  pub room : length ends ≡ 9
+-- two ends between which the table of group g lies
+pub record Within (ts ends : List ℕ) (g : ℕ) : Type 0 where
+  pub few : g + 1 < length ends
+  pub begins : get_or ends g 0 ≤ get_or ends (g + 1) 0
+  pub ended : get_or ends (g + 1) 0 ≤ length ts
 
 -- a state that can be worked on, the groups' accepted tables with their ends, and a place for header and data octets
 pub record Placed (s : FrameState) (ts ends source : List ℕ) : Type 0 where

@@ -1,15 +1,18 @@
-// The number of a whole-frame call.
-ghost use Rattle.std.specs.Prelude.{◌≡◌, length};
+// What a whole-frame call tests.
+ghost use Rattle.std.specs.Prelude.{◌≡◌, IfOk};
+ghost use Rattle.refusal.specs.Answers.{number};
 ghost use Rattle.frame.specs.Frames.{whole_number};
 ghost use Rattle.frame.specs.Needs.{Ends};
 
 use crate::sources::source_length;
 use crate::tables::find_tables;
 use plan::Plan;
+use refusal::Refusal;
 
-// The refusal of a whole-frame call, or 0: plan, settings, the lengths of its areas, tables. Whether the areas that have an
-// entry for each slot have their length is handed in. The ends say where the groups' tables begin where the number is 0.
-pub fn frame_number(
+// The refusal of plan, settings, the lengths of the call's areas or the tables, and otherwise where the groups' tables begin and
+// end. Whether the areas that have an entry for each slot have their length is handed in.
+#[tactic(auto, using(refusal::specs::AnswerLaws::refused_not_0), unfolding(crate::specs::Frames::whole_number))]
+pub fn check_frame(
     plan: Plan,
     mask: u32,
     start: u32,
@@ -17,27 +20,13 @@ pub fn frame_number(
     source: usize,
     frame: usize,
     each: bool,
-    ends: &mut [usize],
-) -> u8
-    requires { length ends.old ≡ 9 }
-    ensures value { result ≡ whole_number plan mask start tables.now source frame each }
-    ensures ends { result ≡ 0 → Ends plan tables.now ends.new }
+) -> Result<[usize; 9], Refusal>
+    ensures value { number result ≡ whole_number plan mask start tables.now source frame each }
+    ensures ends { IfOk result (λ ends. Ends plan tables.now ends) }
 {
-    let opened = plan::open(plan, mask, start);
-    if opened.number != 0 {
-        return opened.number;
+    plan::check_opening(plan, mask, start)?;
+    if !each || source != source_length(plan) || frame != plan::FRAME_OCTETS {
+        return Err(Refusal::Length);
     }
-    if !each {
-        return refusal::LENGTH;
-    }
-    if source != source_length(plan) {
-        return refusal::LENGTH;
-    }
-    if frame != plan::FRAME_OCTETS {
-        return refusal::LENGTH;
-    }
-    if find_tables(plan, tables, ends) {
-        return 0;
-    }
-    refusal::TABLE
+    find_tables(plan, tables).ok_or(Refusal::Table)
 }

@@ -6,8 +6,9 @@ mod calls;
 mod sources;
 mod tables;
 
-pub use calls::frame_number;
+pub use calls::check_frame;
 pub use sources::{slot_octets, source_length};
+pub use tables::table_of;
 
 // The slots of a frame.
 pub const SLOTS: usize = 120;

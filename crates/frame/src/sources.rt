@@ -25,10 +25,8 @@ pub fn source_length(plan: Plan) -> usize
     ensures { result ≡ source_from plan 120 }
 {
     let mut sum: usize = 0;
-    let mut k: usize = 0;
-    while k < SLOTS {
+    for k in 0..SLOTS {
         sum += slot_octets(plan, k + 1);
-        k += 1;
     }
     sum
 }

@@ -1,19 +1,21 @@
 // The slots of a frame, read one behind the other from one area.
 ghost use Rattle.std.specs.Prelude.{◌≡◌, ◌&&◌, eqb, length};
 ghost use Rattle.lists.specs.Choice.{pick};
+ghost use Rattle.refusal.specs.Answers.{number};
 ghost use Rattle.frame.specs.Steps.{answer_at, stuff_at, position_at, read_at, state_after};
 ghost use Rattle.frame.specs.Frames.{answers_of, stuffs_of, positions_of, sources_of, read_frame_number};
 ghost use Rattle.frame_reader.specs.Needs.{Reading, Answering};
 
 use plan::{FrameState, Plan};
-use slot::SlotRead;
+use refusal::Refusal;
+use slot::{SlotRead, SlotReading};
 
 // Reads the state's next slot, or passes it where it is a dummy: its answer, the state after it, its stuff bits, and its failing
 // position.
 fn read_place(
     state: FrameState,
     tables: &[u16],
-    ends: &[usize],
+    ends: &[usize; 9],
     received: &[u8],
     source: &mut [u8],
 ) -> SlotRead
@@ -23,13 +25,13 @@ fn read_place(
 {
     let place = plan::next_place(state);
     if place.carries {
-        let group = place.group;
-        let from = ends[group];
-        let to = ends[group + 1];
-        return slot_reader::read_slot(state, &tables[from..to], received, source);
+        let table = frame::table_of(tables, ends, place.group);
+        return SlotRead::new(slot_reader::read_slot(state, table, received, source));
     }
-    let passed = plan::pass(state);
-    slot::not_read(refusal::DUMMY, passed.state)
+    SlotRead::new(SlotReading {
+        state: plan::pass(state).unwrap(),
+        stuff: Err(Refusal::Dummy),
+    })
 }
 
 // Reads every slot of a frame from its part of the area; header and data octets follow each other.
@@ -38,7 +40,7 @@ fn read_slots(
     mask: u32,
     start: u32,
     tables: &[u16],
-    ends: &[usize],
+    ends: &[usize; 9],
     frame: &[u8],
     source: &mut [u8],
     answers: &mut [u8],
@@ -51,11 +53,9 @@ fn read_slots(
     ensures stuff_after { stuff.new ≡ stuffs_of plan tables.now mask start frame.now }
     ensures positions_after { positions.new ≡ positions_of plan tables.now mask start frame.now }
 {
-    let opened = plan::open(plan, mask, start);
-    let mut state = opened.state;
+    let mut state = plan::open(plan, mask, start).unwrap();
     let mut from: usize = 0;
-    let mut k: usize = 0;
-    while k < frame::SLOTS {
+    for k in 0..frame::SLOTS {
         let next = k + 1;
         let at = plan::SLOT_OCTETS * k;
         let end = plan::SLOT_OCTETS * next;
@@ -66,7 +66,6 @@ fn read_slots(
         positions[k] = read.position;
         state = read.state;
         from = to;
-        k = next;
     }
 }
 
@@ -74,17 +73,12 @@ fn read_slots(
 fn each_slot(answers: usize, stuff: usize, positions: usize) -> bool
     ensures { result ≡ (eqb answers 120 && eqb stuff 120 && eqb positions 120) }
 {
-    if answers != frame::SLOTS {
-        return false;
-    }
-    if stuff != frame::SLOTS {
-        return false;
-    }
-    positions == frame::SLOTS
+    answers == frame::SLOTS && stuff == frame::SLOTS && positions == frame::SLOTS
 }
 
 // Reads a whole frame: all header and data octets, and for each slot an answer octet, one with its stuff bits, and its failing
 // position. What is read badly leaves its header and data places as found; a refusal leaves all areas as found.
+#[tactic(auto, using(refusal::specs::AnswerLaws::refused_not_0), unfolding(frame::specs::Frames::read_frame_number))]
 pub fn read_frame(
     plan: Plan,
     mask: u32,
@@ -95,23 +89,18 @@ pub fn read_frame(
     answers: &mut [u8],
     stuff: &mut [u8],
     positions: &mut [u16],
-) -> u8
-    ensures value { result ≡ read_frame_number plan mask start tables.now (length source.old) (length frame.now) (length answers.old) (length stuff.old) (length positions.old) }
-    ensures source_after { source.new ≡ pick (eqb result 0) (sources_of plan tables.now mask start frame.now source.old) source.old }
-    ensures answers_after { answers.new ≡ pick (eqb result 0) (answers_of plan tables.now mask start frame.now) answers.old }
-    ensures stuff_after { stuff.new ≡ pick (eqb result 0) (stuffs_of plan tables.now mask start frame.now) stuff.old }
-    ensures positions_after { positions.new ≡ pick (eqb result 0) (positions_of plan tables.now mask start frame.now) positions.old }
+) -> Result<(), Refusal>
+    ensures value { number result ≡ read_frame_number plan mask start tables.now (length source.old) (length frame.now) (length answers.old) (length stuff.old) (length positions.old) }
+    ensures source_after { source.new ≡ pick (eqb (number result) 0) (sources_of plan tables.now mask start frame.now source.old) source.old }
+    ensures answers_after { answers.new ≡ pick (eqb (number result) 0) (answers_of plan tables.now mask start frame.now) answers.old }
+    ensures stuff_after { stuff.new ≡ pick (eqb (number result) 0) (stuffs_of plan tables.now mask start frame.now) stuff.old }
+    ensures positions_after { positions.new ≡ pick (eqb (number result) 0) (positions_of plan tables.now mask start frame.now) positions.old }
 {
     let octets = source.len();
-    let area = frame.len();
     let each = each_slot(answers.len(), stuff.len(), positions.len());
-    let mut ends = [0usize; 9];
-    let number = frame::frame_number(plan, mask, start, tables, octets, area, each, &mut ends);
-    if number != 0 {
-        return number;
-    }
+    let ends = frame::check_frame(plan, mask, start, tables, octets, frame.len(), each)?;
     read_slots(
         plan, mask, start, tables, &ends, frame, source, answers, stuff, positions,
     );
-    0
+    Ok(())
 }

@@ -1,11 +1,13 @@
 -- Laws of parity by steps: through accepted addresses it is document 01's.
-use Rattle.std.specs.Prelude.{◌≡◌, refl, true, List, ℕ, zero, suc, ◌+◌, ◌*◌, ◌-◌, ◌%◌, ◌<◌, get_or, drop}
+use Rattle.std.specs.Prelude.{◌≡◌, refl, true, List, ℕ, zero, suc, ◌+◌, ◌*◌, ◌-◌, ◌%◌, ◌<◌, ◌≤◌, length, get_or, drop}
 use Rattle.std.proofs.Math.Path.{sym, ap}
 use Rattle.std.proofs.Common.{◌∙◌, get_or-take, get_or-drop}
 use native.Mathlib.Omega.{arith}
+use Rattle.std.proofs.Math.Seq.{take_all}
 use Rattle.lists.specs.Count.{table}
 use Rattle.lists.specs.CountLaws.{sum_none, sum_more, sum_same, sum_add, sum_each, table_same}
 use Rattle.lists.specs.Parts.{part}
+use Rattle.lists.specs.PartLaws.{length_part}
 use Rattle.parity_table.specs.Tables.{positions, row_start, table_ok}
 use Rattle.parity_table.specs.TableLaws.{row_at}
 use Rattle.ldpc.specs.Parity.{spacing, position, bit_times, row_times, times_to, times, running, parity_of}
@@ -22,6 +24,26 @@ pub row_stepped_more : (q : ℕ) (t u : List ℕ) (from n base j : ℕ)
     → row_stepped q t u from (n + 1) base j ≡ row_stepped q t u from n base j + address_times q (part base (base + 374) u) (get_or t (from + n) 0) j
 unfolding row_stepped
 row_stepped_more q t u from n base j = sum_more n _
+
+-- the same of a row's bits and addresses by themselves
+pub row_stepped_whole : (q : ℕ) (t u : List ℕ) (n j : ℕ) → length u ≡ 374
+    → row_stepped q t u 0 (n + 1) 0 j ≡ row_stepped q t u 0 n 0 j + address_times q u (get_or t n 0) j
+row_stepped_whole q t u n j l =
+    let e : part 0 (0 + 374) u ≡ u = take_all 374 u (omega arith) in
+    let z : 0 + n ≡ n = omega arith in
+    row_stepped_more q t u 0 n 0 j ∙ rw (e, z) refl
+
+-- and of those that stand in a table and in all bits
+pub row_stepped_part : (q : ℕ) (t u : List ℕ) (from c base j : ℕ) → from + c ≤ length t → base + 374 ≤ length u
+    → row_stepped q t u from c base j ≡ row_stepped q (part from (from + c) t) (part base (base + 374) u) 0 c 0 j
+unfolding row_stepped
+row_stepped_part q t u from c base j h l =
+    let v = part base (base + 374) u in
+    let e : part 0 (0 + 374) v ≡ v = take_all 374 v (omega (arith, length_part base (base + 374) u l)) in
+    sum_same c _ _ (λ i k.
+    let a : get_or (part from (from + c) t) (0 + i) 0 ≡ get_or t (from + i) 0
+    = get_or-take (from + c - from) (drop from t) (0 + i) 0 (omega arith) ∙ get_or-drop from t (0 + i) 0 ∙ ap (λ (n : ℕ). get_or t n 0) (omega arith) in
+    rw (e, a) refl)
 
 pub times_stepped_none : (q : ℕ) (t u : List ℕ) (j : ℕ) → times_stepped q t u 0 j ≡ 0
 unfolding times_stepped

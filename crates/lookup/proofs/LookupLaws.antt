@@ -81,17 +81,22 @@ module _ (p : Plan) where
     pub tables_few : length (tables_of p) ≤ 4080
     tables_few = omega (arith, start_all, start_few p.count (omega arith), (accepted p n).high)
 
-    -- the table of one group more copied behind those before it
-    pub table_put : (g : ℕ) → g < p.count → (at end : ℕ) (found area : List ℕ) (r : ℕ) (left : List ℕ) → at ≡ table_start p g → end ≡ at + length_of (rate_of p g)
-        → Filling (tables_of p) found at area
-        → Answered (copy_number (rate_of p g) (part at end area)) (table_of (rate_of p g)) (part at end area) r left
-        → Filling (tables_of p) found end (put_mid at (end - at) area left)
-    table_put g h at end found area r left e d f a =
-        let t : end ≡ table_start p (g + 1) = d ∙ omega (arith, e, start_more g h) in
-        let within : end ≤ length area = omega (arith, t, start_within (g + 1) (omega arith), f.long, f.same) in
-        let l : length (part at end area) ≡ length (table_of (rate_of p g)) = length_part at end area within ∙ omega (arith, d, length_known g h) in
-        let y : left ≡ table_of (rate_of p g) = a.area ∙ rw (eq-eqb _ 0 (number_good (rate_of p g) (part at end area) (rate_known g h) l)) in
-        filling_part (tables_of p) found at area f end left (omega (arith, d)) (omega (arith, within, f.same)) (y ∙ rw (e, t) (sym (table_there g h)))
+    -- the call that copies the table of one group more behind those before it is refused for nothing
+    module _ (g : ℕ) (h : g < p.count) (at end : ℕ) (found area : List ℕ) (e : at ≡ table_start p g) (d : end ≡ at + length_of (rate_of p g)) (f : Filling (tables_of p) found at area) where
+      table_end : end ≡ table_start p (g + 1)
+      table_end = d ∙ omega (arith, e, start_more g h)
+
+      table_within : end ≤ length area
+      table_within = omega (arith, table_end, start_within (g + 1) (omega arith), f.long, f.same)
+
+      pub table_taken : copy_number (rate_of p g) (part at end area) ≡ 0
+      table_taken = number_good (rate_of p g) (part at end area) (rate_known g h) (length_part at end area table_within ∙ omega (arith, d, length_known g h))
+
+      pub table_put : (r : ℕ) (left : List ℕ) → Answered (copy_number (rate_of p g) (part at end area)) (table_of (rate_of p g)) (part at end area) r left
+          → Filling (tables_of p) found end (put_mid at (end - at) area left)
+      table_put r left a =
+          let y : left ≡ table_of (rate_of p g) = a.area ∙ rw (eq-eqb _ 0 table_taken) in
+          filling_part (tables_of p) found at area f end left (omega (arith, d)) (omega (arith, table_within, f.same)) (y ∙ rw (e, table_end) (sym (table_there g h)))
 
     -- the published tables of an accepted plan are tables that whole-frame calls accept
     pub tables_accepted : tables_ok p (tables_of p) ≡ true

@@ -1,7 +1,9 @@
 -- What a caller asks of a plan before it lends areas (document 01, "Plan and place", "Checks in the slot", "Refusal list").
-use Rattle.std.specs.Prelude.{false, List, ℕ, eqb, leb, length}
+use Rattle.std.specs.Prelude.{false, List, ℕ, eqb, leb, length, Result, Ok, Err}
 use Rattle.lists.specs.Choice.{pick, and_then}
 use Rattle.lists.specs.Count.{joined}
+use Rattle.refusal.specs.Answers.{number_of}
+use Rattle.refusal.specs.declared.Refusal.{Refusal}
 use Rattle.refusal.specs.Numbers.{PLAN, FULL, LENGTH}
 use Rattle.plan.specs.declared.Plan.{Plan}
 use Rattle.plan.specs.declared.Place.{Place}
@@ -34,6 +36,11 @@ place_number p s = and_then (pick (eqb s 0) PLAN 0) (and_then (plan_number p) (p
 -- "Every other number returned with a refusal is 0"
 abbrev pub no_place : Place
 no_place = record { group = 0; modulation = 0; rate = 0; carries = false }
+
+-- what is answered, a place or a refusal, as number and place
+abbrev pub as_placed : Result Place Refusal → Placed
+as_placed (Ok p) = record { number = 0; place = p }
+as_placed (Err r) = record { number = number_of r; place = no_place }
 
 -- where slot s lies
 unfoldable pub placed : Plan → ℕ → Placed

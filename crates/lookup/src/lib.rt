@@ -11,7 +11,7 @@ use plan::Place;
 pub use sources::source_octets;
 pub use tables::{copy_tables, tables_entries};
 
-// What is asked for of a slot: the number, 0 or the refusal, and its place.
+// What is told C of a slot, where a Result does not cross: the number, 0 or the refusal's, and its place.
 #[repr(C)]
 #[derive(Clone, Copy)]
 pub struct Placed {

@@ -1,47 +1,51 @@
 // Where a slot lies.
 ghost use Rattle.std.specs.Prelude.{◌≡◌};
-ghost use Rattle.lookup.specs.Lookups.{no_place, place_number, placed};
+ghost use Rattle.refusal.specs.Answers.{number};
+ghost use Rattle.lookup.specs.Lookups.{as_placed, place_number, placed};
 
 use crate::Placed;
 use plan::{Place, Plan};
+use refusal::Refusal;
 
-// The place of a refusal.
-fn no_place() -> Place
-    ensures { result ≡ no_place }
-{
-    Place {
-        group: 0,
-        modulation: 0,
-        rate: 0,
-        carries: false,
-    }
-}
-
-fn place_number(plan: Plan, slot: u32) -> u8
-    ensures { result ≡ place_number plan slot }
+#[tactic(auto, using(refusal::specs::AnswerLaws::refused_not_0), unfolding(crate::specs::Lookups::place_number))]
+fn check_place(plan: Plan, slot: u32) -> Result<(), Refusal>
+    ensures { number result ≡ place_number plan slot }
 {
     if slot == 0 {
-        return refusal::PLAN;
+        return Err(Refusal::Plan);
     }
-    let number = plan::plan_number(plan);
-    if number != 0 {
-        return number;
-    }
+    plan::check_plan(plan)?;
     if slot <= 120 {
-        return 0;
+        return Ok(());
     }
-    refusal::FULL
+    Err(Refusal::Full)
 }
 
-// The place of a slot from 1 to 120, or the refusal and a place of zeros.
-pub fn place(plan: Plan, slot: u32) -> Placed
-    ensures { result ≡ placed plan slot }
+// The place of a slot from 1 to 120, or the refusal.
+#[tactic(auto, using(refusal::specs::AnswerLaws::refused_not_0), unfolding(crate::specs::Lookups::placed))]
+pub fn place(plan: Plan, slot: u32) -> Result<Place, Refusal>
+    ensures { as_placed result ≡ placed plan slot }
 {
-    let number = place_number(plan, slot);
-    if number == 0 {
-        let place = plan::place_of(plan, slot as usize);
-        return Placed { number, place };
+    check_place(plan, slot)?;
+    Ok(plan::place_of(plan, slot as usize))
+}
+
+impl Placed {
+    // Number and place of what is answered, a place of zeros by a refusal.
+    pub fn new(answer: Result<Place, Refusal>) -> Placed
+        ensures { result ≡ as_placed answer }
+    {
+        match answer {
+            Ok(place) => Placed { number: 0, place },
+            Err(refused) => Placed {
+                number: refused.number(),
+                place: Place {
+                    group: 0,
+                    modulation: 0,
+                    rate: 0,
+                    carries: false,
+                },
+            },
+        }
     }
-    let place = no_place();
-    Placed { number, place }
 }

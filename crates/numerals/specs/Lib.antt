@@ -1,5 +1,5 @@
 pub mod Numerals
 pub mod NumeralLaws
 pub mod Words
-pub mod WordLaws
 pub mod Needs
+pub mod WordLaws

@@ -6,10 +6,3 @@ mod words;
 
 pub use digits::{digit, value};
 pub use words::number;
-
-// The number that a word says, where it says one.
-#[derive(Clone, Copy)]
-pub struct Said {
-    pub ok: bool,
-    pub value: u32,
-}

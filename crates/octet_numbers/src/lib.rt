@@ -20,8 +20,7 @@ pub fn number_of(octets: &[u8]) -> u32
     ensures { result ≡ number_of (length octets.now) octets.now }
 {
     let mut digits = [0u8; 32];
-    let end = 8 * octets.len();
-    gathered(octets, &mut digits[0..end]) as u32
+    gathered(octets, &mut digits[..8 * octets.len()]) as u32
 }
 
 // Puts a number into octets, by way of its digits.
@@ -39,8 +38,7 @@ pub fn put_number(x: u32, octets: &mut [u8])
     ensures { octets.new ≡ big_endian (length octets.old) x }
 {
     let mut digits = [0u8; 32];
-    let end = 8 * octets.len();
-    spread(x as u64, &mut digits[0..end], octets);
+    spread(u64::from(x), &mut digits[..8 * octets.len()], octets);
 }
 
 // The sum of at most 512 octets modulo 65,536.
@@ -48,26 +46,12 @@ pub fn sum_of(octets: &[u8]) -> u32
     requires { length octets.now ≤ 512 }
     ensures { result ≡ sum_of octets.now }
 {
-    let mut made: u64 = 0;
-    let mut k: usize = 0;
-    while k < octets.len() {
-        made += lists::wide(octets[k]);
-        k += 1;
-    }
-    (made % 65536) as u32
+    octets.iter().map(|octet| u32::from(*octet)).sum::<u32>() % 65536
 }
 
 // Whether all octets are zeros.
 pub fn all_zero(octets: &[u8]) -> bool
     ensures { result ≡ all_zero octets.now }
 {
-    let mut k: usize = 0;
-    while k < octets.len() {
-        if octets[k] == 0 {
-            k += 1;
-        } else {
-            return false;
-        }
-    }
-    true
+    octets.iter().all(|octet| *octet == 0)
 }

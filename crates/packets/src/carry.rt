@@ -12,34 +12,18 @@ pub fn syncs_ok(count: usize, packets: &[u8]) -> bool
     requires { length packets.now ≡ 188 * count }
     ensures { result ≡ every count (begins_sync packets.now) }
 {
-    let mut i: usize = 0;
-    let mut at: usize = 0;
-    while i < count {
-        if packets[at] != SYNC_OCTET {
-            return false;
-        }
-        at += 188;
-        i += 1;
-    }
-    true
+    (0..count).all(|i| packets[188 * i] == SYNC_OCTET)
 }
 
-// The packets without their first octets, end to end.
+// The packets without their first octets, end to end. The loops go by a packet's number: what `chunks_exact_mut` lends is
+// not known behind a loop.
 pub fn leave_out(count: usize, packets: &[u8], octets: &mut [u8])
     requires { OfPackets count packets.now octets.old }
     ensures { octets.new ≡ packed count packets.now }
 {
-    let mut i: usize = 0;
-    let mut from: usize = 0;
-    let mut at: usize = 0;
-    while i < count {
-        let start = from + 1;
-        let next = from + 188;
-        let end = at + 187;
-        bits::copy(&packets[start..next], &mut octets[at..end]);
-        from = next;
-        at = end;
-        i += 1;
+    for i in 0..count {
+        let rest = &packets[188 * i + 1..188 * (i + 1)];
+        octets[187 * i..187 * (i + 1)].copy_from_slice(rest);
     }
 }
 
@@ -48,17 +32,9 @@ pub fn put_back(count: usize, octets: &[u8], packets: &mut [u8])
     requires { OfPackets count packets.old octets.now }
     ensures { packets.new ≡ unpacked count octets.now }
 {
-    let mut i: usize = 0;
-    let mut from: usize = 0;
-    let mut at: usize = 0;
-    while i < count {
-        let next = from + 187;
-        let start = at + 1;
-        let end = at + 188;
-        packets[at] = SYNC_OCTET;
-        bits::copy(&octets[from..next], &mut packets[start..end]);
-        from = next;
-        at = end;
-        i += 1;
+    for i in 0..count {
+        let rest = &octets[187 * i..187 * (i + 1)];
+        packets[188 * i] = SYNC_OCTET;
+        packets[188 * i + 1..188 * (i + 1)].copy_from_slice(rest);
     }
 }

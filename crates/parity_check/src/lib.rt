@@ -14,14 +14,16 @@ fn next_place(place: usize, edge: usize) -> usize
     ensures { result ≡ next_place edge place }
 {
     if edge <= place {
-        return place - edge + 1;
+        place - edge + 1
+    } else {
+        place + 374
     }
-    place + 374
 }
 
 // The lowest position at which the received parity is not that of the bits, or M where there is none.
 // The 120 rows of a slot have 374 bits each: those of the first rows are added through their row's addresses, to sums
 // that stand in columns, and each bit of the others is a parity position, whose running sum must be the bit received.
+// The loops over rows, addresses and bits, left by the rows' label, are the form that is asked for.
 pub fn lowest_wrong(
     rows: usize,
     table: &[u16],
@@ -36,24 +38,24 @@ pub fn lowest_wrong(
     bits::fill(sums, 0);
     let q = 120 - rows;
     let edge = 374 * (119 - rows);
-    let mut s: usize = 0;
+    let mut s = 0;
     let mut last: u64 = 0;
-    let mut position: usize = 0;
-    let mut place: usize = 0;
+    let mut position = 0;
+    let mut place = 0;
     'rows: for r in 0..120 {
         if r < rows {
-            let count = lists::index(table[s]);
+            let from = s + 1;
+            let to = from + usize::from(table[s]);
             let base = 374 * r;
-            let end = base + 374;
-            for i in 0..count {
-                ldpc::add_address(q, lists::index(table[s + 1 + i]), &bits[base..end], sums);
+            for address in &table[from..to] {
+                ldpc::add_address(q, usize::from(*address), &bits[base..base + 374], sums);
             }
-            s = s + 1 + count;
-            continue 'rows;
+            s = to;
+            continue;
         }
         for _ in 0..374usize {
-            last = (last + lists::wide(sums[place])) % 2;
-            if last != lists::wide(received[position]) {
+            last = (last + u64::from(sums[place])) % 2;
+            if last != u64::from(received[position]) {
                 break 'rows;
             }
             position += 1;

@@ -12,45 +12,21 @@ fn address_ok(m: usize, table: &[u16], from: usize, i: usize) -> bool
     ensures { result ≡ address_ok m table.now from i }
 {
     let address = table[from + i];
-    if m <= lists::index(address) {
-        return false;
-    }
-    let mut k: usize = 0;
-    while k < i {
-        if table[from + k] == address {
-            return false;
-        }
-        k += 1;
-    }
-    true
+    usize::from(address) < m && !table[from..from + i].contains(&address)
 }
 
 // Whether a row with addresses below m stands at s.
 fn row_ok(m: usize, table: &[u16], s: usize) -> bool
     ensures { result ≡ row_ok m table.now s }
 {
-    if table.len() <= s {
+    let Some(&first) = table.get(s) else {
         return false;
-    }
-    let count = lists::index(table[s]);
-    if count < 1 {
-        return false;
-    }
-    if 16 < count {
-        return false;
-    }
+    };
+    let count = usize::from(first);
     let from = s + 1;
-    if table.len() - from < count {
-        return false;
-    }
-    let mut i: usize = 0;
-    while i < count {
-        if !address_ok(m, table, from, i) {
-            return false;
-        }
-        i += 1;
-    }
-    true
+    (1..=16).contains(&count)
+        && count <= table.len() - from
+        && (0..count).all(|i| address_ok(m, table, from, i))
 }
 
 // The length of the accepted table at the head of a list, or 0 where none stands there.
@@ -59,14 +35,12 @@ pub fn table_length(rows: usize, list: &[u16]) -> usize
     ensures { result ≡ table_length rows list.now }
 {
     let m = 374 * (120 - rows);
-    let mut s: usize = 0;
-    let mut r: usize = 0;
-    while r < rows {
+    let mut s = 0;
+    for _ in 0..rows {
         if !row_ok(m, list, s) {
             return 0;
         }
-        s = s + 1 + lists::index(list[s]);
-        r += 1;
+        s += 1 + usize::from(list[s]);
     }
     s
 }
@@ -77,8 +51,5 @@ pub fn table_ok(rows: usize, table: &[u16]) -> bool
     ensures { result ≡ table_ok rows table.now }
 {
     let length = table_length(rows, table);
-    if length == 0 {
-        return false;
-    }
-    length == table.len()
+    length != 0 && length == table.len()
 }

@@ -1,9 +1,11 @@
 -- Laws of states: what a number 0 says, and that a state handed back with 0 is sound for the next call.
-use Rattle.std.specs.Prelude.{◌≡◌, refl, true, false, ◌&&◌, ℕ, zero, suc, ◌≤◌, eqb, leb}
-use Rattle.std.proofs.Common.{arith, le-leb, leb-true, eq-eqb, ne_eqb}
+use Rattle.std.specs.Prelude.{◌≡◌, refl, true, false, ◌&&◌, ℕ, zero, suc, ◌≤◌, eqb, leb, Result, Ok, Err, IsOk}
+use Rattle.std.proofs.Common.{arith, rules, le-leb, leb-true, eq-eqb, ne_eqb}
 use Rattle.std.proofs.lemmas.Bool.{eqb-false}
 use Rattle.lists.specs.Choice.{pick}
 use Rattle.lists.specs.ChoiceLaws.{and_left, and_right, then_zero, not_refused, no_cause}
+use Rattle.refusal.specs.AnswerLaws.{refused_some}
+use Rattle.refusal.specs.declared.Refusal.{Refusal}
 use Rattle.refusal.specs.Numbers.{PLAN, DUMMY, FULL, REGISTER}
 use Rattle.dispersal.specs.Register.{mask_ok, register_ok, settings_ok}
 use Rattle.plan.specs.declared.Plan.{Plan}
@@ -12,7 +14,7 @@ use Rattle.plan.specs.Sizes.{slot_width}
 use Rattle.plan.specs.Records.{plan_in}
 use Rattle.plan.specs.Plans.{plan_number}
 use Rattle.plan.specs.Places.{carries}
-use Rattle.plan.specs.States.{begun, moved_on, open_number, opened, sound_number, state_number, pass_number, passed}
+use Rattle.plan.specs.States.{as_answer, begun, moved_on, open_number, opened, sound_number, state_number, pass_number, passed}
 use Rattle.plan.specs.Needs.{Sound, Ready}
 
 positive : (n : ℕ) → (n ≡ 0 → ⊥) → 1 ≤ n
@@ -85,3 +87,8 @@ unfolding passed
 passed_next s h =
     let r = (pass_ready s h).0.sound in
     rw (eq-eqb (pass_number s) 0 h) (sound_yes (moved_on s s.register) (moved_sound s s.register r r.register))
+
+-- a call whose number is 0 answers a state
+pub answers_state : (s : FrameState) (r : Result FrameState Refusal) → (as_answer s r).number ≡ 0 → IsOk r
+answers_state s (Ok x) h = search rules
+answers_state s (Err r) h = absurd (refused_some r h)

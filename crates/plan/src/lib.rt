@@ -14,7 +14,7 @@ pub use groups::{check_plan, data_slots};
 pub use places::place_of;
 pub use rates::{MODULATIONS, RATES, data_octets, known, packets, rows};
 use refusal::Refusal;
-pub use state::{advanced, check_state, next_place, open, pass};
+pub use state::{advanced, check_opening, check_state, next_place, open, pass};
 
 // A slot: its bits, its octets, the width of its register, and the most parity bits, and the most header and data octets,
 // that one has.

@@ -12,7 +12,7 @@ use refusal::Refusal;
 
 // The refusal of a plan or of a register's settings.
 #[tactic(auto, using(refusal::specs::AnswerLaws::refused_not_0), unfolding(crate::specs::States::open_number))]
-fn check_opening(plan: Plan, mask: u32, start: u32) -> Result<(), Refusal>
+pub fn check_opening(plan: Plan, mask: u32, start: u32) -> Result<(), Refusal>
     ensures { number result ≡ open_number plan mask start }
 {
     check_plan(plan)?;

@@ -12,16 +12,7 @@ fn column_of(octets: &[u8], k: usize) -> [u16; 8]
     requires { k < 3 }
     ensures { result ≡ column k octets.now }
 {
-    [
-        lists::octet_at(octets, k) as u16,
-        lists::octet_at(octets, k + 3) as u16,
-        lists::octet_at(octets, k + 6) as u16,
-        lists::octet_at(octets, k + 9) as u16,
-        lists::octet_at(octets, k + 12) as u16,
-        lists::octet_at(octets, k + 15) as u16,
-        lists::octet_at(octets, k + 18) as u16,
-        lists::octet_at(octets, k + 21) as u16,
-    ]
+    std::array::from_fn(|g| u16::from(lists::octet_at(octets, 3 * g + k)))
 }
 
 // The plan of so many groups, from their octets.
@@ -39,25 +30,21 @@ fn put_group(plan: Plan, g: usize, octets: &mut [u8])
     requires { GroupRoom plan g octets.old }
     ensures { octets.new ≡ group_of plan g }
 {
-    if g < lists::index(plan.count) {
+    if g < usize::from(plan.count) {
         octets[0] = plan.modulation[g] as u8;
         octets[1] = plan.rate[g] as u8;
         octets[2] = plan.slots[g] as u8;
     } else {
-        bits::fill(octets, 0);
+        octets.fill(0);
     }
 }
 
-// Puts the octets of eight groups.
+// Puts the octets of eight groups, by a group's number: what `chunks_exact_mut` lends is not known behind a loop.
 pub fn put_groups(plan: Plan, octets: &mut [u8])
     requires { Room plan octets.old }
     ensures { octets.new ≡ groups_of plan }
 {
-    let mut g: usize = 0;
-    while g < 8 {
-        let at = 3 * g;
-        let end = at + 3;
-        put_group(plan, g, &mut octets[at..end]);
-        g += 1;
+    for g in 0..8 {
+        put_group(plan, g, &mut octets[3 * g..3 * g + 3]);
     }
 }

@@ -1,9 +1,11 @@
 -- A plan's text, read (document 01, "Worked by hand": "Program plan-list reads lines of modulation, rate, slots"). Past
 -- the end of a text stands 0, which is neither a digit nor a separator.
-use Rattle.std.specs.Prelude.{Bool, ◌&&◌, ◌||◌, not, List, ℕ, zero, suc, ◌+◌, eqb, leb, ltb, length, get_or}
+use Rattle.std.specs.Prelude.{Bool, ◌&&◌, ◌||◌, not, List, ℕ, zero, suc, ◌+◌, eqb, leb, ltb, length, get_or, Result, Ok, Err}
 use Rattle.lists.specs.Choice.{pick, and_then}
 use Rattle.lists.specs.Count.{first, table}
 use Rattle.refusal.specs.Numbers.{PLAN}
+use Rattle.refusal.specs.Answers.{number_of}
+use Rattle.refusal.specs.declared.Refusal.{Refusal}
 use Rattle.plan.specs.declared.Plan.{Plan}
 use Rattle.plan.specs.Records.{of_columns, no_plan}
 use Rattle.plan.specs.Plans.{plan_number}
@@ -45,7 +47,6 @@ line_ok t at = field_ok t (field_start t at 0) SPACE && (field_ok t (field_start
 unfoldable pub line_of : List ℕ → ℕ → Line
 line_of t at =
     record {
-      ok = line_ok t at;
       modulation = field_value t (field_start t at 0);
       rate = field_value t (field_start t at 1);
       slots = field_value t (field_start t at 2);
@@ -83,6 +84,11 @@ plan_of t =
 -- a number, with the text's plan where it is 0; "Every other number returned with a refusal is 0"
 abbrev pub read_as : ℕ → List ℕ → PlanRead
 read_as n t = record { number = n; plan = pick (eqb n 0) (plan_of t) no_plan }
+
+-- what reading answers, as its number and a plan
+abbrev pub as_read : Result Plan Refusal → PlanRead
+as_read (Ok p) = record { number = 0; plan = p }
+as_read (Err r) = record { number = number_of r; plan = no_plan }
 
 -- the text's refusal, then the plan's
 unfoldable pub read_number : List ℕ → ℕ

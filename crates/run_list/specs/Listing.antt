@@ -1,14 +1,13 @@
 -- The list that plan-list prints (document 01, "Worked by hand").
-use Rattle.std.specs.Prelude.{Bool, true, false, List, [], ◌∷◌, ◌++◌, ℕ, ◌-◌, eqb, leb, length}
+use Rattle.std.specs.Prelude.{Bool, true, false, List, [], ◌∷◌, ◌++◌, ℕ, ◌-◌, eqb, leb}
 use Rattle.lists.specs.Choice.{pick}
 use Rattle.lists.specs.Count.{sum, joined}
 use Rattle.plan.specs.declared.Plan.{Plan}
-use Rattle.plan.specs.Plans.{modulation_of, rate_of, slots_of, data_slots_of, plan_number}
+use Rattle.plan.specs.Plans.{modulation_of, rate_of, slots_of, data_slots_of}
 use Rattle.plan.specs.Places.{run_first, run_last}
 use Rattle.texts.specs.Characters.{LINE-FEED}
 use Rattle.texts.specs.Decimals.{decimal, field}
 use Rattle.plan_text.specs.Reading.{read_number, plan_of}
-use Rattle.run_list.specs.declared.Listed.{Listed}
 
 -- "first last mod rate kind", the "line of column names"
 unfoldable pub heading : List ℕ
@@ -53,10 +52,6 @@ total_line d u = total_word ++ (field d ++ (data_word ++ (field u ++ kind_word f
 
 unfoldable pub list_text : Plan → List ℕ
 list_text p = heading ++ (joined p.count (group_text p) ++ total_line (data_total p) (dummy_total p))
-
--- writing the list: the plan's refusal, or 0 and how many octets it takes
-unfoldable pub listed : Plan → Listed
-listed p = record { number = plan_number p; length = pick (eqb (plan_number p) 0) (length (list_text p)) 0 }
 
 -- "refused "
 unfoldable pub refused_word : List ℕ

@@ -1,27 +1,23 @@
 // The list of a plan's runs, written, and the whole answer of plan-list.
 #![tactic(auto)]
 
-ghost use Rattle.std.specs.Prelude.{[], ◌≡◌, eqb, leb, length};
+ghost use Rattle.std.specs.Prelude.{[], ◌≡◌, IfOk, eqb, leb, length};
 ghost use Rattle.lists.specs.Choice.{pick};
 ghost use Rattle.lists.specs.Count.{joined};
 ghost use Rattle.lists.specs.Parts.{put};
 ghost use Rattle.plan.specs.Plans.{plan_number};
+ghost use Rattle.refusal.specs.Answers.{number};
 ghost use Rattle.texts.specs.Needs.{Number};
 ghost use Rattle.texts.specs.Written.{Written};
-ghost use Rattle.run_list.specs.Listing.{run_line, group_text, data_total, total_line, list_text, listed, refused_text, answer_text};
+ghost use Rattle.run_list.specs.Listing.{run_line, group_text, data_total, total_line, list_text, refused_text, answer_text};
 ghost use Rattle.run_list.specs.Needs.{Taken, RunLine, GroupLines, PlanLines, Totals, ListArea};
 
 use plan::Plan;
+use refusal::Refusal;
 use texts::{put_decimal, put_field, put_text};
 
-// What writing a list answers: 0 and how many octets it takes, or the refusal and 0.
-#[derive(Clone, Copy)]
-pub struct Listed {
-    pub number: u8,
-    pub length: usize,
-}
-
 // The line of a run, which a run without slots has not.
+#[tactic(auto, using(texts::specs::DecimalLaws::length_field))]
 fn write_run(
     out: &mut [u8],
     at: usize,
@@ -45,31 +41,30 @@ fn write_run(
 }
 
 // The lines of group g, before which the groups passed have their slots.
+#[tactic(auto, using(crate::proofs::Sizes::sizes))]
 fn write_group(out: &mut [u8], at: usize, plan: Plan, g: usize, passed: usize) -> usize
     requires { GroupLines plan g passed at out.old }
     ensures { Written (group_text plan g) at out.old out.new result }
 {
-    let slots = lists::index(plan.slots[g]);
-    let modulation = lists::index(plan.modulation[g]);
-    let rate = lists::index(plan.rate[g]);
+    let slots = usize::from(plan.slots[g]);
+    let modulation = usize::from(plan.modulation[g]);
+    let rate = usize::from(plan.rate[g]);
     let filled = passed + plan::data_slots(plan, g);
     let end = passed + slots;
     let next = write_run(out, at, passed + 1, filled, modulation, rate, b"data\n");
     write_run(out, next, filled + 1, end, modulation, rate, b"dummy\n")
 }
 
+#[tactic(auto, using(crate::proofs::Sizes::sizes))]
 fn write_groups(out: &mut [u8], at: usize, plan: Plan) -> usize
     requires { PlanLines plan at out.old }
     ensures { Written (joined plan.count (group_text plan)) at out.old out.new result }
 {
-    let count = lists::index(plan.count);
-    let mut g: usize = 0;
     let mut passed: usize = 0;
     let mut next = at;
-    while g < count {
+    for g in 0..usize::from(plan.count) {
         next = write_group(out, next, plan, g, passed);
-        passed += lists::index(plan.slots[g]);
-        g += 1;
+        passed += usize::from(plan.slots[g]);
     }
     next
 }
@@ -79,16 +74,14 @@ fn data_total(plan: Plan) -> usize
     requires { plan_number plan ≡ 0 }
     ensures { result ≡ data_total plan }
 {
-    let count = lists::index(plan.count);
-    let mut g: usize = 0;
     let mut sum: usize = 0;
-    while g < count {
+    for g in 0..usize::from(plan.count) {
         sum += plan::data_slots(plan, g);
-        g += 1;
     }
     sum
 }
 
+#[tactic(auto, using(texts::specs::DecimalLaws::length_field))]
 fn write_total(out: &mut [u8], at: usize, data: usize, dummies: usize) -> usize
     requires { Totals «data» dummies at out.old }
     ensures { Written (total_line «data» dummies) at out.old out.new result }
@@ -111,6 +104,7 @@ fn write_all(out: &mut [u8], plan: Plan) -> usize
     write_total(out, total, data, 120 - data)
 }
 
+#[tactic(auto, using(texts::specs::DecimalLaws::length_decimal))]
 fn write_refusal(out: &mut [u8], number: usize) -> usize
     requires { Number number 16 out.old }
     ensures { Written (refused_text number) 0 out.old out.new result }
@@ -120,17 +114,15 @@ fn write_refusal(out: &mut [u8], number: usize) -> usize
     put_text(out, last, b"\n")
 }
 
-// Writes the list of a plan: 0 and how many octets it takes, or the plan's refusal, 0, and the area as it was.
-pub fn write_list(plan: Plan, out: &mut [u8; 512]) -> Listed
-    ensures value { result ≡ listed plan }
+// Writes the list of a plan and answers how many octets it takes, or the plan's refusal, with the area as it was.
+#[tactic(auto, using(refusal::specs::AnswerLaws::refused_not_0))]
+pub fn write_list(plan: Plan, out: &mut [u8; 512]) -> Result<usize, Refusal>
+    ensures refusal { number result ≡ plan_number plan }
+    ensures value { IfOk result (λ n. n ≡ length (list_text plan)) }
     ensures out_after { out.new ≡ pick (eqb (plan_number plan) 0) (put 0 (list_text plan) out.old) out.old }
 {
-    let number = plan::plan_number(plan);
-    if number != 0 {
-        return Listed { number, length: 0 };
-    }
-    let length = write_all(out, plan);
-    Listed { number, length }
+    plan::check_plan(plan)?;
+    Ok(write_all(out, plan))
 }
 
 // What plan-list prints for a text: the list of its plan, or the line of its refusal; and how many octets that takes. The
@@ -140,9 +132,8 @@ pub fn answer(text: &[u8], out: &mut [u8; 512]) -> usize
     ensures out_after { out.new ≡ put 0 (answer_text text.now) out.old }
     ensures taken { Taken result out.new }
 {
-    let read = plan_text::read_plan(text);
-    if read.number != 0 {
-        return write_refusal(out, read.number as usize);
+    match plan_text::read_plan(text) {
+        Ok(plan) => write_all(out, plan),
+        Err(refused) => write_refusal(out, usize::from(refused.number())),
     }
-    write_all(out, read.plan)
 }

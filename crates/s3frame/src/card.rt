@@ -10,7 +10,7 @@ use setting_block::{Registers, SettingsAnswer};
 pub extern "C" fn s3_read_settings(card: &[u8], number: usize) -> SettingsAnswer
     ensures { result ≡ read_answer card.now number }
 {
-    settings::read_settings(card, number)
+    SettingsAnswer::from(settings::read_settings(card, number))
 }
 
 #[unsafe(no_mangle)]
@@ -22,5 +22,7 @@ pub extern "C" fn s3_replace_settings(
 ) -> u8
     ensures { Answered (replace_number (length card.old) number plan registers) (replaced card.old number plan registers) card.old result card.new }
 {
-    settings::replace_settings(card, number, plan, registers)
+    refusal::number(settings::replace_settings(
+        card, number, plan, registers,
+    ))
 }

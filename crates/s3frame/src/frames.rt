@@ -25,7 +25,9 @@ pub extern "C" fn s3_code_frame(
 ) -> u8
     ensures { Answered (frame_number plan mask start tables.now (length source.now) (length frame.old)) (frame_of plan tables.now mask start source.now frame.old) frame.old result frame.new }
 {
-    frame_coder::code_frame(plan, mask, start, tables, source, frame)
+    refusal::number(frame_coder::code_frame(
+        plan, mask, start, tables, source, frame,
+    ))
 }
 
 #[unsafe(no_mangle)]
@@ -46,7 +48,6 @@ pub extern "C" fn s3_read_frame(
     ensures stuff_after { stuff.new ≡ pick (eqb result 0) (stuffs_of plan tables.now mask start frame.now) stuff.old }
     ensures positions_after { positions.new ≡ pick (eqb result 0) (positions_of plan tables.now mask start frame.now) positions.old }
 {
-    frame_reader::read_frame(
-        plan, mask, start, tables, frame, source, answers, stuff, positions,
-    )
+    refusal::number(frame_reader::read_frame(
+        plan, mask, start, tables, frame, source, answers, stuff, positions,))
 }

@@ -15,12 +15,12 @@ pub extern "C" fn s3_packets_of(rate: u32) -> usize
 pub extern "C" fn s3_pack(rate: u32, packets: &[u8], octets: &mut [u8]) -> u8
     ensures { Answered (pack_number rate packets.now (length octets.old)) (packed (packets_of rate) packets.now) octets.old result octets.new }
 {
-    packets::pack(rate, packets, octets)
+    refusal::number(packets::pack(rate, packets, octets))
 }
 
 #[unsafe(no_mangle)]
 pub extern "C" fn s3_unpack(rate: u32, octets: &[u8], packets: &mut [u8]) -> u8
     ensures { Answered (unpack_number rate octets.now (length packets.old)) (unpacked (packets_of rate) octets.now) packets.old result packets.new }
 {
-    packets::unpack(rate, octets, packets)
+    refusal::number(packets::unpack(rate, octets, packets))
 }

@@ -11,7 +11,7 @@ use plan_text::PlanRead;
 pub extern "C" fn s3_plan_of_text(text: &[u8]) -> PlanRead
     ensures { result ≡ plan_read text.now }
 {
-    plan_text::read_plan(text)
+    PlanRead::from(plan_text::read_plan(text))
 }
 
 #[unsafe(no_mangle)]

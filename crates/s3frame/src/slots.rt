@@ -16,7 +16,7 @@ pub extern "C" fn s3_code_slot(
     ensures value { result ≡ code_answer state table.now source.now coded.old }
     ensures coded_after { coded.new ≡ code_area state table.now source.now coded.old }
 {
-    slot_coder::code_slot(state, table, source, coded)
+    Answer::new(slot_coder::code_slot(state, table, source, coded), state)
 }
 
 #[unsafe(no_mangle)]
@@ -29,12 +29,12 @@ pub extern "C" fn s3_read_slot(
     ensures value { result ≡ read_answer state table.now coded.now source.old }
     ensures source_after { source.new ≡ read_area state table.now coded.now source.old }
 {
-    slot_reader::read_slot(state, table, coded, source)
+    SlotRead::new(slot_reader::read_slot(state, table, coded, source))
 }
 
 #[unsafe(no_mangle)]
 pub extern "C" fn s3_check_parity(rate: u32, table: &[u16], coded: &[u8]) -> WordAnswer
     ensures { result ≡ check_answer rate table.now coded.now }
 {
-    slot_check::check_parity(rate, table, coded)
+    WordAnswer::new(slot_check::check_parity(rate, table, coded))
 }

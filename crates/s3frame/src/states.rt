@@ -10,19 +10,19 @@ use plan::{Answer, FrameState, Plan};
 pub extern "C" fn s3_open(plan: Plan, mask: u32, start: u32) -> Answer
     ensures { result ≡ opened plan mask start }
 {
-    plan::open(plan, mask, start)
+    Answer::new(plan::open(plan, mask, start), plan::no_state())
 }
 
 #[unsafe(no_mangle)]
 pub extern "C" fn s3_pass(state: FrameState) -> Answer
     ensures { result ≡ passed state }
 {
-    plan::pass(state)
+    Answer::new(plan::pass(state), state)
 }
 
 #[unsafe(no_mangle)]
 pub extern "C" fn s3_place(plan: Plan, slot: u32) -> Placed
     ensures { result ≡ placed plan slot }
 {
-    lookup::place(plan, slot)
+    Placed::new(lookup::place(plan, slot))
 }

@@ -18,7 +18,7 @@ pub extern "C" fn s3_table_entries(rate: u32) -> usize
 pub extern "C" fn s3_published_table(rate: u32, area: &mut [u16]) -> u8
     ensures { Answered (copy_number rate area.old) (table_of rate) area.old result area.new }
 {
-    published::copy_table(rate, area)
+    refusal::number(published::copy_table(rate, area))
 }
 
 #[unsafe(no_mangle)]
@@ -33,5 +33,5 @@ pub extern "C" fn s3_tables_entries(plan: Plan) -> usize
 pub extern "C" fn s3_published_tables(plan: Plan, tables: &mut [u16]) -> u8
     ensures { Answered (tables_number plan tables.old) (tables_of plan) tables.old result tables.new }
 {
-    lookup::copy_tables(plan, tables)
+    refusal::number(lookup::copy_tables(plan, tables))
 }

@@ -16,7 +16,7 @@ pub extern "C" fn s3_code_tmcc(
 ) -> u8
     ensures { Answered (code_number mask start table.now source.now block.old) (block_of table.now mask start source.now) block.old result block.new }
 {
-    tmcc_coder::code_block(mask, start, table, source, block)
+    refusal::number(tmcc_coder::code_block(mask, start, table, source, block))
 }
 
 #[unsafe(no_mangle)]
@@ -30,5 +30,5 @@ pub extern "C" fn s3_read_tmcc(
     ensures value { result ≡ read_answer mask start table.now block.now source.old }
     ensures answered { Answered (read_number mask start table.now block.now source.old) (source_of mask start block.now) source.old result.number source.new }
 {
-    tmcc_reader::read_block(mask, start, table, block, source)
+    WordAnswer::new(tmcc_reader::read_block(mask, start, table, block, source))
 }

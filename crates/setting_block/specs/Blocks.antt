@@ -1,8 +1,10 @@
 -- A setting in its block (document 02, N4): what is written, what is read, and when a block is refused.
-use Rattle.std.specs.Prelude.{Bool, ◌&&◌, List, ◌++◌, ℕ, ◌+◌, ◌*◌, eqb, take, drop, replicate}
+use Rattle.std.specs.Prelude.{Bool, ◌&&◌, List, ◌++◌, ℕ, ◌+◌, ◌*◌, eqb, take, drop, replicate, Result, Ok, Err}
 use Rattle.lists.specs.Choice.{pick, and_then}
 use Rattle.lists.specs.Parts.{part}
 use Rattle.refusal.specs.Numbers.{REGISTER, BLOCK}
+use Rattle.refusal.specs.Answers.{number_of as refusal_number}
+use Rattle.refusal.specs.declared.Refusal.{Refusal}
 use Rattle.bits.specs.Same.{same}
 use Rattle.dispersal.specs.Register.{settings_ok}
 use Rattle.plan.specs.declared.Plan.{Plan}
@@ -11,6 +13,7 @@ use Rattle.plan.specs.Sizes.{slot_width, block_width}
 use Rattle.plan.specs.Plans.{plan_number}
 use Rattle.plan_octets.specs.Groups.{of_octets, groups_of}
 use Rattle.setting_block.specs.declared.Registers.{Registers}
+use Rattle.setting_block.specs.declared.Settings.{Settings}
 use Rattle.setting_block.specs.declared.SettingsAnswer.{SettingsAnswer}
 use Rattle.setting_block.specs.Layout.{Field, layout, mark}
 use Rattle.octet_numbers.specs.Numbers.{big_endian, number_of, sum_of, all_zero}
@@ -89,3 +92,8 @@ no_registers = record { slots = record { mask = 0; start = 0 }; tmcc = record { 
 -- a number with plan and registers, and zeros where it refuses ("Every other number returned with a refusal is 0")
 abbrev pub answer : ℕ → Plan → Registers → SettingsAnswer
 answer n p r = record { number = n; plan = pick (eqb n 0) p no_plan; registers = pick (eqb n 0) r no_registers }
+
+-- what reading a block answers, as its number, plan and registers
+abbrev pub as_settings : Result Settings Refusal → SettingsAnswer
+as_settings (Ok s) = record { number = 0; plan = s.plan; registers = s.registers }
+as_settings (Err r) = record { number = refusal_number r; plan = no_plan; registers = no_registers }

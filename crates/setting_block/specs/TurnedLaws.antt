@@ -5,7 +5,6 @@ use Rattle.std.proofs.Math.Decide.{ℕ_discrete, dec_lt}
 use Rattle.std.proofs.lemmas.List.{take-set-le, drop-set-add}
 use Rattle.std.proofs.Math.Seq.{take-set-lt}
 use Rattle.lists.specs.ChoiceLaws.{false_of}
-use Rattle.lists.specs.Count.{sum}
 use Rattle.lists.specs.CountLaws.{sum_set}
 use Rattle.lists.specs.Runs.{Octets}
 use Rattle.lists.specs.RunLaws.{below_take, below_part}

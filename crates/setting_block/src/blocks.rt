@@ -1,19 +1,21 @@
 // A block: its tests, what it holds, and how it is made.
-ghost use Rattle.std.specs.Prelude.{◌++◌, ◌≡◌, length};
-ghost use Rattle.lists.specs.Choice.{pick, and_then};
+ghost use Rattle.std.specs.Prelude.{◌++◌, ◌≡◌, ◌&&◌, eqb, length};
+ghost use Rattle.lists.specs.Choice.{pick};
+ghost use Rattle.refusal.specs.Answers.{number};
 ghost use Rattle.refusal.specs.Numbers.{REGISTER};
-ghost use Rattle.setting_block.specs.Layout.{setting_octets, edition};
-ghost use Rattle.setting_block.specs.Blocks.{plan_octets, head_octets, register_octets, body, block_of, plan_in, registers_in, unused_in, block_ok, registers_ok, setting_number, block_number, no_registers, answer};
+ghost use Rattle.bits.specs.Same.{same};
+ghost use Rattle.setting_block.specs.Layout.{layout, mark, setting_octets, edition};
+ghost use Rattle.setting_block.specs.Blocks.{plan_octets, head_octets, register_octets, body, block_of, field_in, number_in, plan_in, registers_in, unused_in, block_ok, registers_ok, setting_number, block_number, as_settings, answer};
 ghost use Rattle.octet_numbers.specs.Numbers.{big_endian, all_zero};
 ghost use Rattle.setting_block.specs.Needs.{Block, Room};
-ghost use Rattle.plan.specs.Records.{no_plan};
 
-use crate::{Register, Registers, SETTING_OCTETS, SettingsAnswer};
+use crate::{Register, Registers, SETTING_OCTETS, Settings};
 use octet_numbers::{all_zero, number_of, put_number, sum_of};
 use plan::{BLOCK_WIDTH, Plan, SLOT_WIDTH};
+use refusal::Refusal;
 
-// "S3PL", and the edition that is written.
-const MARK: [u8; 4] = [83, 51, 80, 76];
+// The mark, and the edition that is written.
+const MARK: [u8; 4] = *b"S3PL";
 
 const EDITION: u32 = 1;
 
@@ -36,22 +38,6 @@ const ZEROS: usize = 46;
 
 const SUM: usize = 510;
 
-// The answer of a refusal.
-pub fn no_settings(number: u8) -> SettingsAnswer
-    ensures { result ≡ record { number = number; plan = no_plan; registers = no_registers } }
-{
-    let none = Register { mask: 0, start: 0 };
-    let registers = Registers {
-        slots: none,
-        tmcc: none,
-    };
-    SettingsAnswer {
-        number,
-        plan: plan::no_plan(),
-        registers,
-    }
-}
-
 // Whether the groups behind the count are zeros.
 fn unused_zero(block: &[u8]) -> bool
     requires { Block block.now }
@@ -60,10 +46,23 @@ fn unused_zero(block: &[u8]) -> bool
     let groups = &block[GROUPS..SLOT_MASK];
     let count = number_of(&block[COUNT..GROUPS]) as usize;
     let used = 3 * count;
-    if used < 24 {
-        return all_zero(&groups[used..24]);
-    }
-    true
+    used >= 24 || all_zero(&groups[used..24])
+}
+
+// Whether mark and edition are right.
+fn head_ok(block: &[u8]) -> bool
+    requires { Block block.now }
+    ensures { result ≡ (same (field_in (layout edition).mark block.now) mark && eqb (number_in (layout edition).edition block.now) edition) }
+{
+    block[0..EDITION_AT] == MARK[..] && number_of(&block[EDITION_AT..COUNT]) == EDITION
+}
+
+// Whether the fillers are zeros.
+fn fillers_zero(block: &[u8]) -> bool
+    requires { Block block.now }
+    ensures { result ≡ (all_zero (unused_in edition block.now) && all_zero (field_in (layout edition).zeros block.now)) }
+{
+    unused_zero(block) && all_zero(&block[ZEROS..SUM])
 }
 
 // Whether mark, edition, fillers and sum are right.
@@ -71,17 +70,9 @@ fn block_ok(block: &[u8]) -> bool
     requires { Block block.now }
     ensures { result ≡ block_ok edition block.now }
 {
-    if bits::same_run(&block[0..EDITION_AT], &MARK) {
-        if number_of(&block[EDITION_AT..COUNT]) == EDITION {
-            if unused_zero(block) {
-                if all_zero(&block[ZEROS..SUM]) {
-                    let sum = sum_of(&block[0..SUM]);
-                    return number_of(&block[SUM..SETTING_OCTETS]) == sum;
-                }
-            }
-        }
-    }
-    false
+    head_ok(block)
+        && fillers_zero(block)
+        && number_of(&block[SUM..SETTING_OCTETS]) == sum_of(&block[0..SUM])
 }
 
 fn plan_in(block: &[u8]) -> Plan
@@ -107,64 +98,47 @@ fn registers_in(block: &[u8]) -> Registers
     Registers { slots, tmcc }
 }
 
-// The first of two numbers that refuses, or 0.
-pub fn first_refusal(a: u8, b: u8) -> u8
-    ensures { result ≡ and_then a b }
-{
-    if a != 0 {
-        return a;
-    }
-    b
-}
-
+#[tactic(auto, unfolding(crate::specs::Blocks::registers_ok))]
 fn registers_ok(registers: Registers) -> bool
     ensures { result ≡ registers_ok registers }
 {
     let slots = registers.slots;
     let tmcc = registers.tmcc;
-    if dispersal::settings_ok(SLOT_WIDTH, slots.mask, slots.start) {
-        return dispersal::settings_ok(BLOCK_WIDTH, tmcc.mask, tmcc.start);
-    }
-    false
+    dispersal::settings_ok(SLOT_WIDTH, slots.mask, slots.start)
+        && dispersal::settings_ok(BLOCK_WIDTH, tmcc.mask, tmcc.start)
 }
 
-fn registers_number(registers: Registers) -> u8
-    ensures { result ≡ pick (registers_ok registers) 0 REGISTER }
+fn check_registers(registers: Registers) -> Result<(), Refusal>
+    ensures { number result ≡ pick (registers_ok registers) 0 REGISTER }
 {
-    if registers_ok(registers) {
-        return 0;
+    if !registers_ok(registers) {
+        return Err(Refusal::Register);
     }
-    refusal::REGISTER
+    Ok(())
 }
 
-// The refusal of plan or registers, or 0.
-pub fn setting_number(plan: Plan, registers: Registers) -> u8
-    ensures { result ≡ setting_number plan registers }
+// The refusal of plan or registers.
+#[tactic(auto, using(refusal::specs::AnswerLaws::refused_not_0), unfolding(crate::specs::Blocks::setting_number))]
+pub fn check_setting(plan: Plan, registers: Registers) -> Result<(), Refusal>
+    ensures { number result ≡ setting_number plan registers }
 {
-    let of_plan = plan::plan_number(plan);
-    let of_registers = registers_number(registers);
-    first_refusal(of_plan, of_registers)
+    plan::check_plan(plan)?;
+    check_registers(registers)
 }
 
 // Reads a block.
-pub fn read_block(block: &[u8]) -> SettingsAnswer
+#[tactic(auto, using(refusal::specs::AnswerLaws::refused_not_0), unfolding(crate::specs::Blocks::block_number))]
+pub fn read_block(block: &[u8]) -> Result<Settings, Refusal>
     requires { Block block.now }
-    ensures { result ≡ answer (block_number edition block.now) (plan_in edition block.now) (registers_in edition block.now) }
+    ensures { as_settings result ≡ answer (block_number edition block.now) (plan_in edition block.now) (registers_in edition block.now) }
 {
-    if block_ok(block) {
-        let plan = plan_in(block);
-        let registers = registers_in(block);
-        let number = setting_number(plan, registers);
-        if number != 0 {
-            return no_settings(number);
-        }
-        return SettingsAnswer {
-            number,
-            plan,
-            registers,
-        };
+    if !block_ok(block) {
+        return Err(Refusal::Block);
     }
-    no_settings(refusal::BLOCK)
+    let plan = plan_in(block);
+    let registers = registers_in(block);
+    check_setting(plan, registers)?;
+    Ok(Settings { plan, registers })
 }
 
 // Puts count and groups.
@@ -172,7 +146,7 @@ fn put_plan(plan: Plan, octets: &mut [u8])
     requires { Room plan 25 octets.old }
     ensures { octets.new ≡ plan_octets edition plan }
 {
-    put_number(plan.count as u32, &mut octets[0..1]);
+    put_number(u32::from(plan.count), &mut octets[0..1]);
     plan_octets::put_groups(plan, &mut octets[1..25]);
 }
 
@@ -181,7 +155,7 @@ fn put_head(plan: Plan, octets: &mut [u8])
     requires { Room plan 30 octets.old }
     ensures { octets.new ≡ head_octets edition plan }
 {
-    bits::copy(&MARK, &mut octets[0..EDITION_AT]);
+    octets[0..EDITION_AT].copy_from_slice(&MARK);
     put_number(EDITION, &mut octets[EDITION_AT..COUNT]);
     put_plan(plan, &mut octets[COUNT..SLOT_MASK]);
 }
@@ -210,7 +184,7 @@ fn put_body(plan: Plan, registers: Registers, octets: &mut [u8])
 {
     put_head(plan, &mut octets[0..SLOT_MASK]);
     put_registers(registers, &mut octets[SLOT_MASK..ZEROS]);
-    bits::fill(&mut octets[ZEROS..SUM], 0);
+    octets[ZEROS..SUM].fill(0);
 }
 
 // Puts the block of plan and registers.

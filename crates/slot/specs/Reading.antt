@@ -1,13 +1,16 @@
 -- A received slot, read (document 01, "Refusal list", as document 02, N5 and N7, amends it): 8 and 9 in this order, the stuff
 -- bits, and where parity broke.
-use Rattle.std.specs.Prelude.{List, ℕ, eqb, take, drop}
+use Rattle.std.specs.Prelude.{List, ℕ, eqb, take, drop, Result, Ok, Err}
 use Rattle.lists.specs.Choice.{pick}
+use Rattle.refusal.specs.Answers.{number as refusalNumber}
+use Rattle.refusal.specs.declared.Refusal.{Refusal}
 use Rattle.bits.specs.Digits.{number}
 use Rattle.bits.specs.Octets.{bits_of, octets_of}
 use Rattle.codeword.specs.declared.WordAnswer.{WordAnswer}
-use Rattle.codeword.specs.Reading.{taken_off, message_in, tail_in, wrong_position, parity_number, no_position, word_answer, word_number, OfWord, with_tail}
+use Rattle.codeword.specs.Reading.{taken_off, message_in, tail_in, wrong_position, parity_number, no_position, position, word_answer, word_number, OfWord, with_tail}
 use Rattle.plan.specs.declared.FrameState.{FrameState}
 use Rattle.slot.specs.declared.SlotRead.{SlotRead}
+use Rattle.slot.specs.declared.SlotReading.{SlotReading}
 use Rattle.slot.specs.Slots.{source_octets, covered_bits, stuff_bits, slot_shape}
 
 -- "The bits before the parity are the first 374 × R of a slot, as sent", and "the last M bits"
@@ -36,6 +39,14 @@ stuff_with n x = pick (eqb n 0) x no_stuff
 -- an answer that has neither stuff bits nor a failing position
 abbrev pub not_read : ℕ → FrameState → SlotRead
 not_read n s = record { number = n; state = s; stuff = no_stuff; position = no_position }
+
+-- what reading answers, a state and stuff bits or a refusal, as number, state, stuff bits and position
+abbrev pub stuff_of : Result ℕ Refusal → ℕ
+stuff_of (Ok x) = x
+stuff_of (Err r) = no_stuff
+
+abbrev pub as_slot_read : SlotReading → SlotRead
+as_slot_read a = record { number = refusalNumber a.stuff; state = a.state; stuff = stuff_of a.stuff; position = position a.stuff }
 
 -- six ones: "the same slot only where that number is 63"
 abbrev pub stuff_ones : ℕ

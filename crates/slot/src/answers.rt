@@ -1,18 +1,28 @@
-// What reading answers where it does not look at a slot.
+// What reading a slot answers C.
 ghost use Rattle.std.specs.Prelude.{◌≡◌};
-ghost use Rattle.slot.specs.Reading.{not_read};
+ghost use Rattle.slot.specs.Reading.{as_slot_read};
 
-use crate::{NO_STUFF, SlotRead};
-use plan::FrameState;
+use crate::{NO_STUFF, SlotRead, SlotReading};
 
-// A number, and a state, with no stuff bits and no failing position.
-pub fn not_read(number: u8, state: FrameState) -> SlotRead
-    ensures { result ≡ not_read number state }
-{
-    SlotRead {
-        number,
-        state,
-        stuff: NO_STUFF,
-        position: codeword::NO_POSITION,
+impl SlotRead {
+    // Number, state, stuff bits and failing position of a reading.
+    pub fn new(reading: SlotReading) -> SlotRead
+        ensures { result ≡ as_slot_read reading }
+    {
+        let state = reading.state;
+        match reading.stuff {
+            Ok(stuff) => SlotRead {
+                number: 0,
+                state,
+                stuff,
+                position: codeword::NO_POSITION,
+            },
+            Err(refused) => SlotRead {
+                number: refused.number(),
+                state,
+                stuff: NO_STUFF,
+                position: codeword::position_of(refused),
+            },
+        }
     }
 }

@@ -1,32 +1,38 @@
-// The number of a slot call: the state, the place, the lent areas and the table, in document 01's order.
-ghost use Rattle.std.specs.Prelude.{◌≡◌};
-ghost use Rattle.plan.specs.States.{state_number};
-ghost use Rattle.slot.specs.Calls.{rows_at, slot_number};
+// What a slot call tests before any work on the slot: the state, the place, the lent areas and the table, in document 01's order.
+ghost use Rattle.std.specs.Prelude.{◌≡◌, IfOk};
+ghost use Rattle.refusal.specs.Answers.{number};
+ghost use Rattle.slot.specs.Calls.{rows_at, data_number, slot_number};
 
 use crate::sizes::{shape, source_octets};
 use plan::FrameState;
+use refusal::Refusal;
 
-// The rows of the parity table at the place of a state's next slot.
-pub fn rows_at(state: FrameState) -> usize
-    requires { state_number state ≡ 0 }
-    ensures { result ≡ rows_at state }
+// The rows of the parity table at the place of a state's next slot, or the refusal of a data call there.
+#[tactic(auto, using(refusal::specs::AnswerLaws::refused_not_0), unfolding(crate::specs::Calls::data_number, crate::specs::Calls::rows_at, plan::specs::Places::place_of))]
+fn rows_at(state: FrameState) -> Result<usize, Refusal>
+    ensures refused { number result ≡ data_number state }
+    ensures rows { IfOk result (λ rows. rows ≡ rows_at state) }
 {
+    plan::check_state(state)?;
     let place = plan::next_place(state);
-    plan::rows(place.rate)
+    if !place.carries {
+        return Err(Refusal::Dummy);
+    }
+    Ok(plan::rows(place.rate))
 }
 
-// The refusal of a slot call before any work on the slot, or 0.
-pub fn slot_number(state: FrameState, table: &[u16], source: &[u8], coded: &[u8]) -> u8
-    ensures { result ≡ slot_number state table.now source.now coded.now }
+// The rows of the parity table at the place of a state's next slot, where nothing refuses a call there.
+#[tactic(auto, using(refusal::specs::AnswerLaws::refused_not_0), unfolding(crate::specs::Calls::slot_number))]
+pub fn check_slot(
+    state: FrameState,
+    table: &[u16],
+    source: &[u8],
+    coded: &[u8],
+) -> Result<usize, Refusal>
+    ensures refused { number result ≡ slot_number state table.now source.now coded.now }
+    ensures rows { IfOk result (λ rows. rows ≡ rows_at state) }
 {
-    let number = plan::state_number(state);
-    if number != 0 {
-        return number;
-    }
-    let place = plan::next_place(state);
-    if place.carries {
-        let rows = plan::rows(place.rate);
-        return codeword::lent_number(shape(rows), source_octets(rows), table, source, coded);
-    }
-    refusal::DUMMY
+    let rows = rows_at(state)?;
+    codeword::check_lent(shape(rows), source_octets(rows), table, source, coded)?;
+    Ok(rows)
 }

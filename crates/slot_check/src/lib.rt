@@ -2,29 +2,32 @@
 #![tactic(auto)]
 
 ghost use Rattle.std.specs.Prelude.{◌≡◌};
+ghost use Rattle.refusal.specs.Answers.{number};
+ghost use Rattle.codeword.specs.Reading.{as_word_answer};
 ghost use Rattle.slot.specs.Reading.{checked_answer};
 ghost use Rattle.slot.specs.Calls.{form_number, check_answer};
 ghost use Rattle.slot.specs.Areas.{Checked};
 
-use codeword::WordAnswer;
+use refusal::Refusal;
 
-// The refusal of the rate, of the slot's length or of the table, or 0.
-fn form_number(rate: u32, table: &[u16], coded: &[u8]) -> u8
-    ensures { result ≡ form_number rate table.now coded.now }
+// The refusal of the rate, of the slot's length or of the table.
+#[tactic(auto, unfolding(slot::specs::Calls::form_number))]
+fn check_form(rate: u32, table: &[u16], coded: &[u8]) -> Result<(), Refusal>
+    ensures { number result ≡ form_number rate table.now coded.now }
 {
     if !plan::known(rate, plan::RATES) {
-        return refusal::PLAN;
+        return Err(Refusal::Plan);
     }
     if coded.len() != plan::SLOT_OCTETS {
-        return refusal::LENGTH;
+        return Err(Refusal::Length);
     }
-    if parity_table::table_ok(plan::rows(rate), table) {
-        return 0;
+    if !parity_table::table_ok(plan::rows(rate), table) {
+        return Err(Refusal::Table);
     }
-    refusal::TABLE
+    Ok(())
 }
 
-// The answer of a received slot whose parity is checked. The areas hold the slot's bits, its parity input and its sums.
+// Checks the parity of a received slot. The areas hold the slot's bits, its parity input and its sums.
 fn checked(
     rows: usize,
     table: &[u16],
@@ -32,9 +35,9 @@ fn checked(
     bits: &mut [u8],
     input: &mut [u8],
     sums: &mut [u8],
-) -> WordAnswer
+) -> Result<(), Refusal>
     requires { Checked rows table.now coded.now bits.old input.old sums.old }
-    ensures { result ≡ checked_answer rows table.now coded.now }
+    ensures { as_word_answer result ≡ checked_answer rows table.now coded.now }
 {
     let shape = slot::shape(rows);
     let end = 374 * rows;
@@ -47,24 +50,15 @@ fn checked(
         &mut input[0..end],
         &mut sums[0..positions],
     );
-    let number = word_reader::parity_number(shape, wrong);
-    WordAnswer {
-        number,
-        position: codeword::position_with(number, wrong),
-    }
+    word_reader::check_parity(shape, wrong)
 }
 
-// Checks the parity of a slot of a rate, whatever its dispersal: its number, and where it broke.
-pub fn check_parity(rate: u32, table: &[u16], coded: &[u8]) -> WordAnswer
-    ensures { result ≡ check_answer rate table.now coded.now }
+// Checks the parity of a slot of a rate, whatever its dispersal.
+#[tactic(auto, using(crate::specs::FormLaws::form_refused))]
+pub fn check_parity(rate: u32, table: &[u16], coded: &[u8]) -> Result<(), Refusal>
+    ensures { as_word_answer result ≡ check_answer rate table.now coded.now }
 {
-    let number = form_number(rate, table, coded);
-    if number != 0 {
-        return WordAnswer {
-            number,
-            position: codeword::NO_POSITION,
-        };
-    }
+    check_form(rate, table, coded)?;
     let mut bits = [0u8; plan::SLOT_BITS];
     let mut input = [0u8; plan::SLOT_BITS];
     let mut sums = [0u8; plan::MOST_PARITY];

@@ -2,21 +2,21 @@
 ghost use Rattle.std.specs.Prelude.{◌≡◌};
 ghost use Rattle.bits.specs.Digits.{number};
 ghost use Rattle.bits.specs.Octets.{octets_of};
-ghost use Rattle.codeword.specs.Reading.{message_in, tail_in};
+ghost use Rattle.refusal.specs.Answers.{number as refusal_number};
+ghost use Rattle.slot.specs.Reading.{stuff_of};
+ghost use Rattle.codeword.specs.Reading.{message_in, tail_in, position};
 ghost use Rattle.codeword.specs.Needs.{ReadOf as ReadWord};
 ghost use Rattle.slot.specs.Slots.{source_octets, slot_shape};
 ghost use Rattle.slot_reader.specs.Needs.{Taken, Held, Readable, ReadOf};
 
+use refusal::Refusal;
 use word_reader::WordRead;
 
-// A received slot, read: the refusal of its parity or BCH bits, or 0, the register after it, its stuff bits, and the failing
-// position told beside the number.
+// A received slot, read: its stuff bits, or the refusal of its parity or BCH bits, and the register after it.
 #[derive(Clone, Copy)]
 pub struct Found {
-    pub number: u8,
+    pub stuff: Result<u8, Refusal>,
     pub register: u32,
-    pub stuff: u8,
-    pub position: u16,
 }
 
 // Header and data octets of the bits with dispersal taken off; their stuff bits as a number.
@@ -43,7 +43,7 @@ fn read_codeword(
     sums: &mut [u8],
 ) -> WordRead
     requires { Held rows register table.now coded.now bits.old input.old sums.old }
-    ensures { ReadWord (slot_shape rows) table.now mask register coded.now result.number result.position result.register bits.new }
+    ensures { ReadWord (slot_shape rows) table.now mask register coded.now (refusal_number result.checked) (position result.checked) result.register bits.new }
 {
     let end = 374 * rows;
     let positions = 374 * (120 - rows);
@@ -59,8 +59,7 @@ fn read_codeword(
     )
 }
 
-// A slot read: its number with the position told beside it, the register after it, and header and data octets and stuff bits
-// where the number is 0.
+// A slot read: its stuff bits and its header and data octets where nothing refuses it, and the register after it.
 pub fn read(
     rows: usize,
     table: &[u16],
@@ -73,23 +72,19 @@ pub fn read(
     source: &mut [u8],
 ) -> Found
     requires { Readable rows register table.now coded.now bits.old input.old sums.old source.old }
-    ensures { ReadOf rows table.now mask register coded.now source.old result.number result.register result.stuff result.position source.new }
+    ensures { ReadOf rows table.now mask register coded.now source.old (refusal_number result.stuff) result.register (stuff_of result.stuff) (position result.stuff) source.new }
 {
     let run = codeword::run_bits(slot::shape(rows));
     let word = read_codeword(rows, table, mask, register, coded, bits, input, sums);
-    if word.number != 0 {
-        return Found {
-            number: word.number,
-            register: word.register,
-            stuff: slot::NO_STUFF,
-            position: word.position,
-        };
-    }
-    let stuff = take_source(rows, &bits[0..run], source);
-    Found {
-        number: 0,
-        register: word.register,
-        stuff,
-        position: word.position,
+    let register = word.register;
+    match word.checked {
+        Ok(()) => Found {
+            stuff: Ok(take_source(rows, &bits[0..run], source)),
+            register,
+        },
+        Err(refused) => Found {
+            stuff: Err(refused),
+            register,
+        },
     }
 }

@@ -6,14 +6,7 @@ pub fn number_or(rt: &impl Env, place: usize, other: u64) -> u64 {
     // No number has more octets, so an argument that does not fit says none.
     let mut word = [0u8; 16];
     match rt.arg(place, &mut word) {
-        Ok(length) => {
-            let said = numerals::number(&word[..length]);
-            if said.ok {
-                u64::from(said.value)
-            } else {
-                other
-            }
-        }
+        Ok(length) => numerals::number(&word[..length]).map_or(other, u64::from),
         Err(_) => other,
     }
 }

@@ -23,7 +23,7 @@ fn code_slots(
 ) {
     for _ in 0..count {
         carry(coded, source);
-        slot_coder::code_slot(state, table, source, coded);
+        let _ = slot_coder::code_slot(state, table, source, coded);
     }
 }
 
@@ -92,7 +92,7 @@ fn with_areas(
 {
     let numbers = published::table_length(u32::from(rate));
     let octets = test_samples::source_length(rate);
-    published::copy_table(u32::from(rate), &mut table[..numbers]);
+    let _ = published::copy_table(u32::from(rate), &mut table[..numbers]);
     run(
         rt,
         rate,

@@ -1,6 +1,6 @@
 // "Counts 115 + 5 accepted .. Nine groups 1. Mask 2^25 refused 6", and of document 02 "115 alone is now 15, and 116 + 4 is 13".
 use crate::lines::line;
-use plan::Plan;
+use plan::{Answer, Plan};
 use std::io;
 use test_samples::{MASK, START};
 
@@ -15,7 +15,7 @@ fn of_counts(count: u16, first: u16, second: u16) -> Plan {
 }
 
 fn opening(rt: &impl Print, name: &str, plan: Plan, mask: u32) -> io::Result<()> {
-    let answer = plan::open(plan, mask, START);
+    let answer = Answer::new(plan::open(plan, mask, START), plan::no_state());
     line(rt, name, u64::from(answer.number))
 }
 

@@ -16,7 +16,7 @@ fn code_line(
     test_samples::fill(1000 + u64::from(number), source);
     test_samples::fill(7, frame);
     let plan = test_samples::numbered_plan(number);
-    let answer = frame_coder::code_frame(plan, MASK, START, tables, source, frame);
+    let answer = refusal::number(frame_coder::code_frame(plan, MASK, START, tables, source, frame));
     lines::answer(rt, number, " coded ", answer)?;
     lines::end(rt, frame)
 }
@@ -35,7 +35,7 @@ fn read_line(
     let mut positions = [11u16; 120];
     test_samples::fill(9, source);
     let plan = test_samples::numbered_plan(number);
-    let answer = frame_reader::read_frame(
+    let answer = refusal::number(frame_reader::read_frame(
         plan,
         MASK,
         START,
@@ -45,7 +45,7 @@ fn read_line(
         &mut answers,
         &mut stuff,
         &mut positions,
-    );
+    ));
     lines::answer(rt, number, name, answer)?;
     lines::each(rt, " answers ", &answers)?;
     lines::each(rt, " stuff ", &stuff)?;

@@ -17,6 +17,16 @@ fn show(rt: &impl Print, name: &str, answer: Answer) -> io::Result<()> {
     answered(rt, answer)
 }
 
+// What opening answers C: a state of zeros by a refusal.
+fn opened(plan: Plan, mask: u32, start: u32) -> Answer {
+    Answer::new(plan::open(plan, mask, start), plan::no_state())
+}
+
+// What passing answers C: the state as it was by a refusal.
+fn passed(state: FrameState) -> Answer {
+    Answer::new(plan::pass(state), state)
+}
+
 // 16APSK 7/9 in 115 slots, of which 92 carry data, and QPSK 1/2 in 5, of which 2 do.
 fn example() -> Plan {
     plan::of_columns(
@@ -36,20 +46,16 @@ fn groups(count: u16) -> Plan {
 
 // Opens the example with settings.
 fn opening(rt: &impl Print, name: &str, mask: u32, start: u32) -> io::Result<()> {
-    show(rt, name, plan::open(example(), mask, start))
+    show(rt, name, opened(example(), mask, start))
 }
 
 fn openings(rt: &impl Print) -> io::Result<()> {
     opening(rt, "open", 16777216, 1)?;
-    show(
-        rt,
-        "open with nine groups",
-        plan::open(groups(9), 16777216, 1),
-    )?;
+    show(rt, "open with nine groups", opened(groups(9), 16777216, 1))?;
     show(
         rt,
         "open with 115 slots and start 0",
-        plan::open(groups(1), 16777216, 0),
+        opened(groups(1), 16777216, 0),
     )?;
     opening(rt, "open with mask 2^25", 33554432, 1)?;
     opening(rt, "open with mask 2^25 - 1", 33554431, 1)?;
@@ -66,7 +72,7 @@ fn state_at(slot: u16, register: u32) -> FrameState {
 
 fn pass_at(rt: &impl Print, slot: u16) -> io::Result<()> {
     field(rt, "pass at slot ", u64::from(slot))?;
-    answered(rt, plan::pass(state_at(slot, 5)))
+    answered(rt, passed(state_at(slot, 5)))
 }
 
 // Data slots and dummies of both groups, their first and last ones, and slots that no frame has.
@@ -85,7 +91,7 @@ fn passes(rt: &impl Print) -> io::Result<()> {
 
 // Passes a slot with a register.
 fn passing(rt: &impl Print, name: &str, slot: u16, register: u32) -> io::Result<()> {
-    show(rt, name, plan::pass(state_at(slot, register)))
+    show(rt, name, passed(state_at(slot, register)))
 }
 
 // A state of 115 slots, whose total is wrong.
@@ -93,7 +99,7 @@ fn wrong_plan(rt: &impl Print, name: &str, slot: u16, register: u32) -> io::Resu
     show(
         rt,
         name,
-        plan::pass(plan::state_at(groups(1), 16777216, 1, slot, register)),
+        passed(plan::state_at(groups(1), 16777216, 1, slot, register)),
     )
 }
 

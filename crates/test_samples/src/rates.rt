@@ -19,10 +19,9 @@ pub fn plan_of(rate: u16) -> Plan {
     )
 }
 
-// The state at its first slot.
+// The state at its first slot, or of zeros where there is no such rate.
 pub fn opened(rate: u16) -> FrameState {
-    let answer = plan::open(plan_of(rate), MASK, START);
-    answer.state
+    plan::open(plan_of(rate), MASK, START).unwrap_or(plan::no_state())
 }
 
 // The header and data octets of a slot.

@@ -9,6 +9,8 @@ pub fn put_tables(plan: Plan, area: &mut [u16]) -> usize
     ensures { result ≤ 4080 }
 {
     let end = lookup::tables_entries(plan);
-    lookup::copy_tables(plan, &mut area[0..end]);
-    end
+    match lookup::copy_tables(plan, &mut area[..end]) {
+        Ok(()) => end,
+        Err(_) => 0,
+    }
 }

@@ -2,7 +2,9 @@
 ghost use Rattle.test_samples.specs.Areas.{Room};
 
 use crate::lines;
-use plan::FrameState;
+use codeword::WordAnswer;
+use plan::{Answer, FrameState};
+use slot::SlotRead;
 use std::io;
 
 // Reads a slot into octets that a refusal must leave as they are.
@@ -16,8 +18,8 @@ fn read_line(
     found: &mut [u8],
 ) -> io::Result<()> {
     test_samples::fill(0, found);
-    let answer = slot_reader::read_slot(state, table, coded, found);
-    let check = slot_check::check_parity(u32::from(rate), table, coded);
+    let answer = SlotRead::new(slot_reader::read_slot(state, table, coded, found));
+    let check = WordAnswer::new(slot_check::check_parity(u32::from(rate), table, coded));
     lines::read(rt, rate, state.slot, damage, answer, check, found)
 }
 
@@ -47,7 +49,10 @@ fn slot_lines(
 ) -> io::Result<FrameState> {
     let mut coded = [0u8; plan::SLOT_OCTETS];
     test_samples::fill(100 * u64::from(rate) + u64::from(state.slot), source);
-    let answer = slot_coder::code_slot(state, table, source, &mut coded);
+    let answer = Answer::new(
+        slot_coder::code_slot(state, table, source, &mut coded),
+        state,
+    );
     lines::coded(rt, rate, state.slot, answer, &coded)?;
     read_lines(rt, rate, state, table, coded, found)?;
     Ok(answer.state)
@@ -79,7 +84,7 @@ fn with_areas(
 {
     let numbers = published::table_length(u32::from(rate));
     let octets = test_samples::source_length(rate);
-    published::copy_table(u32::from(rate), &mut table[..numbers]);
+    let _ = published::copy_table(u32::from(rate), &mut table[..numbers]);
     frame_lines(
         rt,
         rate,

@@ -1,22 +1,35 @@
 -- Laws of the calls' numbers: the ways out of the tests, and what a call with number 0 had.
-use Rattle.std.specs.Prelude.{◌≡◌, refl, Bool, true, false, ◌||◌, List, ℕ, zero, suc, ◌+◌, ◌*◌, ◌/◌, ◌%◌, ◌<◌, ◌≤◌, eqb, leb, ltb, length, get_or}
+use Rattle.std.specs.Prelude.{◌≡◌, refl, Bool, true, false, ◌||◌, List, ℕ, zero, suc, ◌+◌, ◌-◌, ◌*◌, ◌/◌, ◌%◌, ◌<◌, ◌≤◌, eqb, leb, ltb, length, get_or}
 use Rattle.std.proofs.Math.Path.{sym}
-use Rattle.std.proofs.Common.{ap, ◌∙◌, mul-le-mul_left, arith}
+use Rattle.std.proofs.Common.{ap, ap₂, ◌∙◌, mul-le-mul_left, arith}
 use Rattle.std.proofs.Math.Nat.{div-add-mod, mul-mod_right}
 use Rattle.std.proofs.Math.Decide.{ℕ_discrete}
-use borrow.Author.Tests.{lt-ltb, ltb-true, eq-eqb, ne_eqb, eqb-true, leb-true, le-leb}
+use borrow.Author.Tests.{lt-ltb, le-ltb, ltb-true, eq-eqb, ne_eqb, eqb-true, leb-true, le-leb}
 use Rattle.lists.specs.Choice.{pick}
 use Rattle.lists.specs.ChoiceLaws.{and_left, and_right, or_true, then_zero, not_refused}
 use Rattle.lists.specs.Count.{every, first}
-use Rattle.lists.specs.CountLaws.{every_at, every_all}
+use Rattle.lists.specs.CountLaws.{every_at, every_all, every_not}
 use Rattle.refusal.specs.Numbers.{PLAN, LENGTH, PACKET}
 use Rattle.plan.specs.Rates.{rate_ok, data_bits_of, data_octets_of}
 use Rattle.plan.proofs.RateLaws.{rate_rows}
 use Rattle.tlv.specs.declared.ReadAnswer.{ReadAnswer}
 use Rattle.tlv.specs.Packets.{packets_ok}
-use Rattle.tlv.specs.Fill.{none, stream_begins, report, reports}
+use Rattle.tlv.specs.Fill.{none, stream_begins, filled, report, reports, taken_after, owed_after}
 use Rattle.tlv.specs.FillLaws.{reports_at_law, length_reports}
-use Rattle.tlv.specs.Calls.{slots_ok, taken_ok, fill_lent, fill_number, place_ok, mark_ok, all_hold, read_ok, read_number, reading_of, read_answer, laid, read_packets}
+use Rattle.tlv.specs.Calls.{slots_of, slots_ok, taken_ok, fill_lent, fill_number, fill_answer, fill_slots, fill_begins, place_ok, mark_ok, all_hold, read_ok, read_number, reading_of, read_answer, laid, read_packets}
+
+module _ (D T b : ℕ) where
+  pub slots_none : T ≡ 0 → false ≡ slots_ok D T b
+  unfolding slots_ok
+  slots_none e = rw (le-ltb 0 T (omega arith))
+
+  pub slots_part : (T ≡ 0 → ⊥) → (T % D ≡ 0 → ⊥) → false ≡ slots_ok D T b
+  unfolding slots_ok
+  slots_part e h = rw (lt-ltb 0 T (omega arith), ne_eqb (T % D) 0 h)
+
+  pub slots_whole : (T ≡ 0 → ⊥) → T % D ≡ 0 → eqb b (T / D) ≡ slots_ok D T b
+  unfolding slots_ok
+  slots_whole e h = rw (lt-ltb 0 T (omega arith), eq-eqb (T % D) 0 h)
 
 -- the data octets of a known rate's slot
 pub record Data (D : ℕ) : Type 0 where
@@ -71,6 +84,10 @@ report_place D b k = go (first D (λ i. b (D * k + i))) (ltb (first D (λ i. b (
     go r false e = or_true (ltb none D) (eqb none none) refl
 
 module _ (f : ℕ → Bool) (xs : List ℕ) (k : ℕ) where
+  pub hold_not : k < length xs → f (get_or xs k 0) ≡ false → false ≡ all_hold f xs
+  unfolding all_hold
+  hold_not l e = sym (every_not (length xs) (λ i. f (get_or xs i 0)) k l e)
+
   pub hold_all : length xs ≤ k → every k (λ i. f (get_or xs i 0)) ≡ true → true ≡ all_hold f xs
   unfolding all_hold
   hold_all l h = sym (every_all (length xs) (λ i. f (get_or xs i 0)) (λ i m. every_at k (λ i. f (get_or xs i 0)) h i (omega arith)))
@@ -145,14 +162,44 @@ fill_ready rate packets taken owed slots begins h =
       right = not_refused (packets_ok packets) PACKET (omega arith) a.1;
     }
 
--- an accepted reading
+-- a refused reading
 module _ (rate : ℕ) (slots begins lost : List ℕ) (f : ℕ) (packets : List ℕ) (n : ℕ) (e : n ≡ read_number rate slots begins lost f (length packets)) where
+  pub read_refused : (n ≡ 0 → ⊥) → (record { number = n; written = 0; unfinished = 0 } ≡ read_answer rate slots begins lost f packets) × (packets ≡ read_packets rate slots begins lost f packets)
+  unfolding read_answer read_packets
+  read_refused h =
+      let z = ne_eqb (read_number rate slots begins lost f (length packets)) 0 (λ x. h (e ∙ x)) in
+      (rw z (ap (λ (k : ℕ). record { number = k; written = 0; unfinished = 0 }) e), rw z)
+
   pub read_done : n ≡ 0 → (r : ReadAnswer) (left : List ℕ)
       → r ≡ record { number = 0; written = length (reading_of rate slots begins lost f).written; unfinished = (reading_of rate slots begins lost f).unfinished }
       → left ≡ laid (reading_of rate slots begins lost f).written packets
       → (r ≡ read_answer rate slots begins lost f packets) × (left ≡ read_packets rate slots begins lost f packets)
   unfolding read_answer read_packets
   read_done h r left a b = let z = eq-eqb (read_number rate slots begins lost f (length packets)) 0 (sym e ∙ h) in (rw z a, rw z b)
+
+-- a refused filling, and one that is accepted
+module _ (rate : ℕ) (packets : List ℕ) (taken owed : ℕ) (slots begins : List ℕ) (n : ℕ) (e : n ≡ fill_number rate packets taken owed slots begins) where
+  pub fill_refused : (n ≡ 0 → ⊥)
+      → (record { number = n; taken = 0; owed = 0 } ≡ fill_answer rate packets taken owed slots begins)
+      × ((slots ≡ fill_slots rate packets taken owed slots begins)
+      × (begins ≡ fill_begins rate packets taken owed slots begins))
+  unfolding fill_answer fill_slots fill_begins
+  fill_refused h =
+      let z = ne_eqb (fill_number rate packets taken owed slots begins) 0 (λ x. h (e ∙ x)) in
+      (rw z (ap (λ (k : ℕ). record { number = k; taken = 0; owed = 0 }) e), (rw z, rw z))
+
+  pub fill_done : n ≡ 0 → (t w : ℕ) (area told : List ℕ)
+      → t ≡ taken_after packets taken owed (length slots)
+      → w ≡ owed_after packets taken owed (length slots)
+      → area ≡ filled packets taken owed (length slots)
+      → told ≡ reports (data_octets_of rate) (slots_of rate slots) packets taken owed
+      → (record { number = 0; taken = t; owed = w } ≡ fill_answer rate packets taken owed slots begins)
+      × ((area ≡ fill_slots rate packets taken owed slots begins)
+      × (told ≡ fill_begins rate packets taken owed slots begins))
+  unfolding fill_answer fill_slots fill_begins
+  fill_done h t w area told a b c d =
+      let z = eq-eqb (fill_number rate packets taken owed slots begins) 0 (sym e ∙ h) in
+      (rw z (ap₂ (λ (x y : ℕ). record { number = 0; taken = x; owed = y }) a b), (rw z c, rw z d))
 
 -- the reports of filling are such as reading takes
 pub reports_inside : (D n : ℕ) (packets : List ℕ) (taken owed : ℕ) → all_hold (place_ok D) (reports D n packets taken owed) ≡ true

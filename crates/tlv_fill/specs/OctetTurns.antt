@@ -1,9 +1,11 @@
 -- The slots in three pieces: owed octets, octets of packets, octets of fillers.
-use Rattle.std.specs.Prelude.{◌≡◌, List, ◌++◌, ℕ, ◌+◌, ◌-◌, ◌%◌, ◌<◌, ◌≤◌, min, length, get_or}
+use Rattle.std.specs.Prelude.{◌≡◌, refl, List, ◌++◌, ℕ, ◌+◌, ◌-◌, ◌%◌, ◌<◌, ◌≤◌, min, length, get_or}
 use Rattle.std.proofs.Common.{sym, ap, ◌∙◌, arith, lt-ltb, le-ltb}
+use borrow.Rule.Slice.PartMut.{put_mid}
 use Rattle.lists.specs.Count.{table}
-use Rattle.lists.specs.CountLaws.{table_same, table_split}
+use Rattle.lists.specs.CountLaws.{length_table, table_same, table_split}
 use Rattle.lists.specs.Parts.{part}
+use Rattle.lists.specs.PartLaws.{length_part, three_parts}
 use Rattle.tlv.specs.Packets.{octets, run}
 use Rattle.tlv.specs.Fill.{filler, sent_at, stream_at, filled}
 use Rattle.tlv.specs.FillLaws.{sent_behind}
@@ -31,12 +33,12 @@ filled_pieces packets taken owed m r within all =
 
 -- three pieces one behind the other, m octets of packets as many as there are and as there is room for
 module _ (packets : List ℕ) (taken owed m : ℕ) (slots : List ℕ) (needs : LayNeeds packets taken owed slots) (fewest : m ≡ min (length packets - taken) (length slots - owed)) where
-  pub laid_pieces : (a b d : List ℕ) (x z : ℕ)
+  pub pieces_filled : (a b d : List ℕ) (x z : ℕ)
       → a ≡ table x (λ i. get_or filler ((4 - owed + i) % 4) 0) → x ≡ owed
       → b ≡ part taken (taken + m) packets
       → d ≡ table z (λ i. get_or filler ((0 + i) % 4) 0) → z ≡ length slots - (owed + m)
       → a ++ (b ++ d) ≡ filled packets taken owed (length slots)
-  laid_pieces a b d x z ea ex eb ed ez =
+  pieces_filled a b d x z ea ex eb ed ez =
       let within = needs.within in
       let few = needs.few in
       let room = needs.room in
@@ -53,3 +55,20 @@ module _ (packets : List ℕ) (taken owed m : ℕ) (slots : List ℕ) (needs : L
       ∙ ap (λ (n : List ℕ). run (octets filler) (4 - owed) owed ++ (part taken (taken + m) packets ++ n)) back
       ∙ sym (filled_pieces packets taken owed m r (omega arith) (λ h. omega arith))
       ∙ ap (filled packets taken owed) all
+
+  -- the same of pieces that were put one behind the other
+  pub laid_pieces : (a b d : List ℕ) (x z : ℕ)
+      → a ≡ table x (λ i. get_or filler ((4 - owed + i) % 4) 0) → x ≡ owed
+      → b ≡ part taken (taken + m) packets
+      → d ≡ table z (λ i. get_or filler ((0 + i) % 4) 0) → z ≡ length slots - (owed + m)
+      → put_mid (owed + m) (length slots - (owed + m)) (put_mid owed (owed + m - owed) (put_mid 0 (owed - 0) slots a) b) d
+      ≡ filled packets taken owed (length slots)
+  laid_pieces a b d x z ea ex eb ed ez =
+      let within = needs.within in
+      let few = needs.few in
+      let room = needs.room in
+      let la : length a ≡ owed = ap length ea ∙ length_table x (λ i. get_or filler ((4 - owed + i) % 4) 0) ∙ ex in
+      let lb : length b ≡ m = ap length eb ∙ length_part taken (taken + m) packets (omega arith) ∙ omega arith in
+      let ld : length d ≡ length slots - (owed + m) = ap length ed ∙ length_table z (λ i. get_or filler ((0 + i) % 4) 0) ∙ ez in
+      three_parts slots a b d owed (owed + m) (length slots) refl (omega arith) (omega arith) (la ∙ omega arith) (lb ∙ omega arith) ld
+      ∙ pieces_filled a b d x z ea ex eb ed ez

@@ -1,10 +1,13 @@
 -- Laws of the calls: all that a number 0 lets the work on a block assume, and what reading answers.
-use Rattle.std.specs.Prelude.{◌≡◌, refl, true, List, ◌↔◌, ℕ, length, drop, replicate}
-use Rattle.std.proofs.Common.{sym, ap, ◌∙◌, arith, eqb-true, eq-eqb, length-drop, take_all}
+use Rattle.std.specs.Prelude.{◌≡◌, refl, true, List, ◌↔◌, ℕ, length, drop, replicate, Err}
+use Rattle.std.proofs.Common.{sym, ap, subst, ◌∙◌, arith, eqb-true, eq-eqb, length-drop, take_all}
 use Rattle.lists.specs.Choice.{pick}
-use Rattle.lists.specs.ChoiceLaws.{then_zero, not_refused, and_left, and_right}
+use Rattle.lists.specs.ChoiceLaws.{then_first, then_zero, not_refused, and_left, and_right}
 use Rattle.lists.specs.RunLaws.{below_drop}
 use Rattle.refusal.specs.Numbers.{REGISTER, TAIL}
+use Rattle.refusal.specs.Answers.{Answered, number_of}
+use Rattle.refusal.specs.AnswerLaws.{refused_some, refused_by}
+use Rattle.refusal.specs.declared.Refusal.{Refusal}
 use Rattle.bits.specs.Digits.{digits, number}
 use Rattle.bits.specs.DigitLaws.{digits_number}
 use Rattle.bits.specs.Octets.{bits_of}
@@ -12,9 +15,9 @@ use Rattle.bits.specs.OctetLaws.{length_bits_of, bits_of_bits}
 use Rattle.dispersal.specs.Register.{mask_ok, register_ok, settings_ok}
 use Rattle.codeword.proofs.CallLaws as words
 use Rattle.codeword.proofs.CallLaws.{Lent as LentWord}
-use Rattle.codeword.specs.Reading.{wrong_position, no_position, word_answer, word_number, PositionTold}
+use Rattle.codeword.specs.Reading.{as_word_answer, wrong_position, no_position, word_answer, word_number, PositionTold}
 use Rattle.codeword.proofs.ReadingLaws.{word_parity}
-use Rattle.codeword.proofs.AnswerLaws.{Earlier, earlier_then, earlier_test, answer_refused, answer_looked, position_told}
+use Rattle.codeword.proofs.AnswerLaws.{Earlier, answer≡, earlier_told, earlier_then, earlier_test, answer_refused, answer_looked, position_told}
 use Rattle.plan.specs.Sizes.{block_width}
 use Rattle.tmcc.specs.Blocks.{source_octets, message_bits, block_shape}
 use Rattle.tmcc.specs.Calls.{lent_number, tail_ok, code_number, read_number, read_answer}
@@ -81,6 +84,16 @@ module _ (mask start : ℕ) (t block source : List ℕ) where
       → read_answer mask start t block source ≡ word_answer (word_number block_shape t mask start block) (wrong_position block_shape t block)
   unfolding read_answer read_number
   read_looked = answer_looked (lent_number mask start t source block) _ _
+
+  -- a refusal of what is lent is the answer, with no position, and leaves the area
+  pub lent_answer : (r : Refusal) → number_of r ≡ lent_number mask start t source block → as_word_answer {A = Unit} (Err r) ≡ read_answer mask start t block source
+  lent_answer r n =
+      answer≡ n (earlier_told r (subst Earlier (sym n) (lent_earlier mask start t source block))) ∙ sym (read_refused (λ z. refused_some r (n ∙ z)))
+
+  pub lent_area : (right : List ℕ) (r : Refusal) → number_of r ≡ lent_number mask start t source block
+      → Answered (read_number mask start t block source) right source (number_of r) source
+  unfolding read_number
+  lent_area right r n = refused_by _ right source r (n ∙ sym (then_first _ _ (λ z. refused_some r (n ∙ z))))
 
   -- with 8 the position is the lowest failing one
   pub read_told : PositionTold block_shape t block (read_answer mask start t block source).number (read_answer mask start t block source).position

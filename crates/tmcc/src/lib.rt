@@ -6,7 +6,7 @@ ghost use Rattle.tmcc.specs.Blocks.{block_shape};
 
 mod calls;
 
-pub use calls::lent_number;
+pub use calls::check_lent;
 use codeword::Shape;
 
 // The rows of the parity table, those of rate 3.

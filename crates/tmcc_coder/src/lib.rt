@@ -2,12 +2,13 @@
 #![tactic(auto)]
 
 ghost use Rattle.std.specs.Prelude.{◌≡◌, []};
-ghost use Rattle.refusal.specs.Answers.{Answered};
+ghost use Rattle.refusal.specs.Answers.{Answered, number};
 ghost use Rattle.codeword.specs.Words.{plain};
 ghost use Rattle.tmcc.specs.Blocks.{message_of, block_of};
 ghost use Rattle.tmcc.specs.Calls.{code_number};
 ghost use Rattle.tmcc_coder.specs.Needs.{Plain, Coding};
 
+use refusal::Refusal;
 use tmcc::{INPUT_BITS, MESSAGE_BITS, RUN_BITS, SOURCE_BITS, SOURCE_OCTETS};
 
 // TMCC bits and BCH bits. The BCH bits are made in an area of their own, since nothing can be written where the TMCC bits
@@ -39,30 +40,38 @@ fn put_block(
     let _ = word_coder::put_word(tmcc::shape(), table, mask, start, bits, input, block);
 }
 
-// The refusal of a call that codes a block, or 0.
-fn code_number(mask: u32, start: u32, table: &[u16], source: &[u8], block: &[u8]) -> u8
-    ensures { result ≡ code_number mask start table.now source.now block.now }
+// The refusal of a call that codes a block.
+#[tactic(auto, using(refusal::specs::AnswerLaws::refused_not_0), unfolding(tmcc::specs::Calls::code_number))]
+fn check_code(
+    mask: u32,
+    start: u32,
+    table: &[u16],
+    source: &[u8],
+    block: &[u8],
+) -> Result<(), Refusal>
+    ensures { number result ≡ code_number mask start table.now source.now block.now }
 {
-    let number = tmcc::lent_number(mask, start, table, source, block);
-    if number != 0 {
-        return number;
-    }
+    tmcc::check_lent(mask, start, table, source, block)?;
     if source[SOURCE_OCTETS - 1] % 4 == 0 {
-        return 0;
+        return Ok(());
     }
-    refusal::TAIL
+    Err(Refusal::Tail)
 }
 
 // Codes the 1,178 octets of a frame's TMCC bits into the 3,960 octets of its block; a refusal leaves the block as it was.
-pub fn code_block(mask: u32, start: u32, table: &[u16], source: &[u8], block: &mut [u8]) -> u8
-    ensures { Answered (code_number mask start table.now source.now block.old) (block_of table.now mask start source.now) block.old result block.new }
+#[tactic(auto, using(refusal::specs::AnswerLaws::refused_by))]
+pub fn code_block(
+    mask: u32,
+    start: u32,
+    table: &[u16],
+    source: &[u8],
+    block: &mut [u8],
+) -> Result<(), Refusal>
+    ensures { Answered (code_number mask start table.now source.now block.old) (block_of table.now mask start source.now) block.old (number result) block.new }
 {
-    let number = code_number(mask, start, table, source, block);
-    if number != 0 {
-        return number;
-    }
+    check_code(mask, start, table, source, block)?;
     let mut bits = [0u8; plan::BLOCK_BITS];
     let mut input = [0u8; INPUT_BITS];
     put_block(table, mask, start, source, &mut bits, &mut input, block);
-    0
+    Ok(())
 }

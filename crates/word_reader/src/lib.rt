@@ -1,20 +1,19 @@
 // Reading a received word: its parity, its dispersal, its BCH bits.
 #![tactic(auto)]
 
-ghost use Rattle.std.specs.Prelude.{◌≡◌};
+ghost use Rattle.std.specs.Prelude.{◌≡◌, ◌<◌};
+ghost use Rattle.refusal.specs.Answers.{number};
 ghost use Rattle.bits.specs.Octets.{bits_of};
-ghost use Rattle.codeword.specs.Reading.{wrong_position, parity_number, checks_number};
-ghost use Rattle.codeword.specs.Needs.{Fits};
-ghost use Rattle.codeword.specs.Needs.{Checked, Received, Run, ReadOf};
+ghost use Rattle.codeword.specs.Reading.{as_word_answer, position, wrong_position, parity_number, checks_number, word_answer};
+ghost use Rattle.codeword.specs.Needs.{Checked, Fits, Received, Run, ReadOf};
 
 use codeword::Shape;
+use refusal::Refusal;
 
-// A received word, read: the refusal of its parity or BCH bits, or 0, the failing position told beside it, and the register
-// after the word.
+// A received word, read: the refusal of its parity or BCH bits, and the register after the word.
 #[derive(Clone, Copy)]
 pub struct WordRead {
-    pub number: u8,
-    pub position: u16,
+    pub checked: Result<(), Refusal>,
     pub register: u32,
 }
 
@@ -38,32 +37,33 @@ pub fn wrong_position(
     parity_check::lowest_wrong(shape.rows, table, input, &bits[run..], sums)
 }
 
-// The refusal of a parity whose lowest wrong position this is, or 0.
-pub fn parity_number(shape: Shape, wrong: usize) -> u8
-    requires { Fits shape }
-    ensures { result ≡ parity_number shape wrong }
+// The refusal of a parity whose lowest wrong position this is.
+#[tactic(auto, unfolding(codeword::specs::Reading::parity_number))]
+pub fn check_parity(shape: Shape, wrong: usize) -> Result<(), Refusal>
+    requires fits { Fits shape }
+    requires few { wrong < 65536 }
+    ensures { as_word_answer result ≡ word_answer (parity_number shape wrong) wrong }
 {
     if wrong == 374 * (120 - shape.rows) {
-        return 0;
+        return Ok(());
     }
-    refusal::PARITY
+    Err(Refusal::Parity(wrong as u16))
 }
 
-// The refusal of parity or BCH bits, in this order, or 0.
-fn checks_number(shape: Shape, wrong: usize, run: &[u8]) -> u8
-    requires { Run shape run.now }
-    ensures { result ≡ checks_number shape wrong run.now }
+// The refusal of parity or BCH bits, in this order.
+#[tactic(auto, using(refusal::specs::AnswerLaws::refused_not_0), unfolding(codeword::specs::Reading::checks_number, codeword::specs::Reading::bch_right))]
+fn check_word(shape: Shape, wrong: usize, run: &[u8]) -> Result<(), Refusal>
+    requires run { Run shape run.now }
+    requires few { wrong < 65536 }
+    ensures { as_word_answer result ≡ word_answer (checks_number shape wrong run.now) wrong }
 {
-    let number = parity_number(shape, wrong);
-    if number != 0 {
-        return number;
-    }
+    check_parity(shape, wrong)?;
     let message = shape.message;
     let tail = message + 192;
-    if bch::right(&run[0..message], &run[message..tail]) {
-        return 0;
+    if !bch::right(&run[..message], &run[message..tail]) {
+        return Err(Refusal::Bch);
     }
-    refusal::BCH
+    Ok(())
 }
 
 // Reads a word: message, BCH bits and tail are left at the head of the bits' area. The parity is checked as received.
@@ -80,15 +80,13 @@ pub fn read_word(
     sums: &mut [u8],
 ) -> WordRead
     requires { Received shape register table.now coded.now bits.old input.old sums.old }
-    ensures { ReadOf shape table.now mask register coded.now result.number result.position result.register bits.new }
+    ensures { ReadOf shape table.now mask register coded.now (number result.checked) (position result.checked) result.register bits.new }
 {
     let run = codeword::run_bits(shape);
     let wrong = wrong_position(shape, table, coded, bits, input, sums);
     let next = dispersal::disperse(shape.width, mask, register, &mut bits[0..run]);
-    let number = checks_number(shape, wrong, &bits[0..run]);
     WordRead {
-        number,
-        position: codeword::position_with(number, wrong),
+        checked: check_word(shape, wrong, &bits[0..run]),
         register: next,
     }
 }

@@ -1,49 +1,27 @@
 -- `ldpc::add_row`: the row is added through the addresses passed.
-use mathlib.Core.Path.{◌≡◌, ◌∙◌}
-use Prim.Native.Nat.{◌+◌, ◌-◌}
-use native.Mathlib.Omega.{arith}
-use borrow.Author.Rules.{rules}
-use Rattle.lists.specs.PartLaws.{length_part}
-use Rattle.ldpc.specs.Parity.{spacing}
-use Rattle.ldpc.proofs.SteppedParityLaws.{row_stepped_none, row_stepped_more}
+use Rattle.std.proofs.Common.{◌≡◌, ◌∙◌, length, arith, rules}
 use Rattle.ldpc.specs.Columns.{across}
+use Rattle.ldpc.proofs.SteppedParityLaws.{row_stepped_none, row_stepped_whole}
 use Rattle.ldpc.proofs.AddedLaws.{added_none, added_then}
 use Rattle.ldpc.proofs.add_row.Goals as goal
 
-pub loop-i-init : goal.loop-i-init
-loop-i-init c =
-    let a = c.args in
-    record {
-      within = search rules;
-      adding = added_none _ _ (λ n. row_stepped_none (spacing a.rows) a.table.now a.bits.now a.from a.base (across (spacing a.rows) 374 n));
-    }
+pub loop-address-init : goal.loop-address-init
+loop-address-init c = let a = c.args in added_none _ _ (λ n. row_stepped_none a.q a.addresses.now a.row.now 0 0 (across a.q 374 n))
 
 pub add_address-requires : goal.add_address-requires
 add_address-requires c =
-    let i = c in
-    let l = i.loop-i in
-    let s = i in
-    record {
-      some = omega (arith, s.requires.rate.few);
-      below = rw c.index-address.ensures.0 (s.requires.below l.i i.loop-i-test.true);
-      bits = length_part s.args.base (s.args.base + 374) s.args.bits.now s.requires.long ∙ omega arith;
-      places = l.invariant.adding.same ∙ s.requires.places;
-    }
+    let l = c.loop-address in
+    let s = c.requires in
+    record { some = s.some; below = rw c.from.ensures (s.below l.address-index (search rules)); bits = s.bits; places = l.invariant.same ∙ s.places }
 
-pub loop-i-preserved : goal.loop-i-preserved
-loop-i-preserved c =
-    let b = c in
-    let l = b.loop-i in
-    let a = b.args in
-    let e = b.index-address.ensures.0 in
-    record {
-      within = search rules;
-      adding = added_then _ l.columns _ _ _ _ l.invariant.adding b.add_address.ensures
-          (λ n. rw e (row_stepped_more (spacing a.rows) a.table.now a.bits.now a.from l.i a.base (across (spacing a.rows) 374 n)));
-    }
+pub loop-address-preserved : goal.loop-address-preserved
+loop-address-preserved c =
+    let l = c.loop-address in
+    let a = c.args in
+    added_then _ l.columns _ _ _ _ l.invariant c.add_address.ensures
+    (λ n. rw c.from.ensures (row_stepped_whole a.q a.addresses.now a.row.now l.address-index (across a.q 374 n) c.requires.bits))
 
 pub returns : goal.returns
 returns c =
-    let l = c.loop-i in
-    let e : l.i ≡ c.args.count = omega arith in
-    rw e at l.invariant.adding
+    let e : c.loop-address.address-index ≡ length c.args.addresses.now = omega arith in
+    rw e at c.loop-address.invariant

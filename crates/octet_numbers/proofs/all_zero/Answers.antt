@@ -1,36 +1,18 @@
--- `octet_numbers::all_zero`: the octets passed are zeros.
-use mathlib.Core.Path.{◌≡◌, sym}
-use Prim.Native.Nat.{◌-◌}
-use native.Mathlib.Omega.{arith}
-use borrow.Author.Rules.{rules}
-use borrow.Author.Tests.{eq-eqb, ne_eqb}
-use lib.Dec.{eqb}
-use lib.ListN.{length, get_or}
-use Rattle.lists.specs.CountLaws.{every_none, every_next, every_not}
+-- `octet_numbers::all_zero`: each octet of a list is the one at each place.
+use Rattle.std.proofs.Common.{◌≡◌, ℕ, length, get_or, rules, eq-eqb, eqb-true}
+use Rattle.std.specs.Prelude.{IsTrue, ◌↔◌, EachIndex, slice_index, eqb}
+use Rattle.lists.specs.ChoiceLaws.{same_test}
+use Rattle.lists.specs.CountLaws.{every_at, every_all}
 use Rattle.octet_numbers.specs.Numbers.{all_zero}
 use Rattle.octet_numbers.proofs.all_zero.Goals as goal
-
-pub loop-k-init : goal.loop-k-init
-loop-k-init c = record { within = omega arith; zeros = every_none _ }
-
-pub loop-k-preserved : goal.loop-k-preserved
-loop-k-preserved c =
-    let l = c.loop-k in
-    let u = c.args.octets.now in
-    record { within = search rules; zeros = every_next l.k (λ i. eqb (get_or u i 0) 0) l.invariant.zeros (eq-eqb (get_or u l.k 0) 0 (search rules)) }
-
-pub returns-else-octets-k-eq0 : goal.returns-else-octets-k-eq0
-unfolding all_zero
-returns-else-octets-k-eq0 c =
-    let l = c.loop-k in
-    let u = c.args.octets.now in
-    sym (every_not (length u) (λ i. eqb (get_or u i 0) 0) l.k (search rules) (ne_eqb (get_or u l.k 0) 0 (search rules)))
 
 pub returns : goal.returns
 unfolding all_zero
 returns c =
-    let l = c.loop-k in
     let u = c.args.octets.now in
-    let w = l.invariant.within in
-    let e : length u ≡ l.k = omega arith in
-    rw e (sym l.invariant.zeros)
+    let n = length u in
+    let zero_at = λ (k : ℕ). eqb (get_or u k 0) 0 in
+    let e : IsTrue c.all.result ↔ EachIndex u (λ k. slice_index u k ≡ 0) = search rules in
+    same_test _ _
+    (λ t. every_all n zero_at (λ k l. eq-eqb (get_or u k 0) 0 (e.0 t k l)))
+    (λ t. e.1 (λ k l. eqb-true (get_or u k 0) 0 (every_at n zero_at t k l)))

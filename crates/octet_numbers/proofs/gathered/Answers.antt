@@ -7,14 +7,12 @@ use Rattle.octet_numbers.proofs.gathered.Goals as goal
 
 pub gather-requires : goal.gather-requires
 gather-requires c =
-    let s = c in
     let e = c.expand.ensures in
-    let n = length_bits_of s.args.octets.now in
-    rw e (record { few = omega (arith, s.requires.few); bits = bits_of_bits s.args.octets.now })
+    let n = length_bits_of c.args.octets.now in
+    rw e (record { few = omega (arith, c.requires.few); bits = bits_of_bits c.args.octets.now })
 
 pub returns : goal.returns
 unfolding number_of
 returns c =
-    let s = c in
-    let n = length_bits_of s.args.octets.now in
+    let n = length_bits_of c.args.octets.now in
     c.gather.ensures ∙ rw (c.expand.ensures, n)

@@ -8,6 +8,5 @@ use Rattle.octet_numbers.proofs.number_of.Goals as goal
 
 pub overflow_cast-result : goal.overflow_cast-result
 overflow_cast-result c =
-    let s = c in
-    let u = s.args.octets.now in
-    omega (arith, c.gathered.ensures, number_below (length u) u, pow_mono {i = 8 * length u} {j = 32} (omega (arith, s.requires)))
+    let u = c.args.octets.now in
+    omega (arith, c.gathered.ensures, number_below (length u) u, pow_mono {i = 8 * length u} {j = 32} (omega (arith, c.requires)))

@@ -6,11 +6,9 @@ use Rattle.octet_numbers.proofs.spread.Goals as goal
 
 pub collect-requires : goal.collect-requires
 collect-requires c =
-    let s = c in
-    rw c.spread.ensures (record { eights = length_digits _ _ ∙ s.requires.eights; bits = digits_bits _ _ })
+    rw c.spread.ensures (record { eights = length_digits _ _ ∙ c.requires.eights; bits = digits_bits _ _ })
 
 pub returns : goal.returns
 unfolding big_endian
 returns c =
-    let s = c in
-    c.collect.ensures ∙ rw (c.spread.ensures, s.requires.eights)
+    c.collect.ensures ∙ rw (c.spread.ensures, c.requires.eights)

@@ -5,7 +5,10 @@ use mathlib.Core.Path.{◌≡◌, refl, sym, ap, ◌∙◌}
 use mathlib.Core.List.{List}
 use Prim.Native.Nat.{ℕ, ◌+◌, ◌*◌, ◌-◌, ◌<◌, ◌≤◌, min}
 use native.Mathlib.Omega.{arith}
-use lib.ListN.{length, get_or, replicate}
+use lib.ListN.{length, get_or, replicate, drop}
+use Rattle.std.proofs.Common.{get_or-take, get_or-drop, length-take}
+use Rattle.lists.specs.Parts.{part}
+use Rattle.ldpc.proofs.RowLaws.{row_below}
 use borrow.Author.Rules.{rules}
 use Rattle.lists.specs.PartLaws.{length_part}
 use Rattle.parity_table.specs.Tables.{positions, row_start, table_ok}
@@ -33,13 +36,16 @@ full rows r table bits found sums zeros z m h a =
     let e : min r rows ≡ rows = omega arith in
     added_rows _ _ sums rows table bits (z ∙ ap (λ (n : ℕ). replicate n 0) m) e a
 
+-- an element of a part
+part_at : (a e i : ℕ) (t : List ℕ) → i < length (part a e t) → get_or (part a e t) i 0 ≡ get_or t (a + i) 0
+part_at a e i t h = get_or-take (e - a) (drop a t) i 0 (omega (arith, length-take (e - a) (drop a t))) ∙ get_or-drop a t i 0
+
 pub rows-init : goal.rows-init
 rows-init c =
     let s = c in
     let a = s.args in
     let z : min 0 a.rows ≡ 0 = omega arith in
     record {
-      within = search rules;
       start = rw z (sym (row_start_none a.table.now));
       adding = added_none _ _ (λ n. rw z (times_stepped_none (spacing a.rows) a.table.now a.bits.now (across (spacing a.rows) 374 n)));
       reached = omega arith;
@@ -52,61 +58,43 @@ offset_bounds-table-s c = let a = c.args in omega (arith, row a.rows c.rows.r c.
 pub bounds-table-s : goal.bounds-table-s
 bounds-table-s c = let a = c.args in omega (arith, row a.rows c.rows.r c.rows.s a.table.now c.requires.ready.ok c.if-r-rows.true c.rows.invariant.start)
 
-pub loop-i-init : goal.loop-i-init
-loop-i-init c =
-    let r = c in
+pub loop-address-init : goal.loop-address-init
+loop-address-init c =
     let a = c.args in
-    record {
-      within = search rules;
-      adding = added_none _ _ (λ n. row_stepped_none (spacing a.rows) a.table.now a.bits.now (r.rows.s + 1) (374 * r.rows.r) (across (spacing a.rows) 374 n));
-    }
+    added_none _ _ (λ n. row_stepped_none (spacing a.rows) a.table.now a.bits.now (c.rows.s + 1) (374 * c.rows.r) (across (spacing a.rows) 374 n))
 
-pub overflow_add-s : goal.overflow_add-s
-overflow_add-s c = let a = c.args in omega (arith, row a.rows c.rows.r c.rows.s a.table.now c.requires.ready.ok c.if-r-rows.true c.rows.invariant.start)
+pub overflow_add-from : goal.overflow_add-from
+overflow_add-from c = let a = c.args in omega (arith, row a.rows c.rows.r c.rows.s a.table.now c.requires.ready.ok c.if-r-rows.true c.rows.invariant.start)
 
-pub overflow_add-s-in-loop-i : goal.overflow_add-s-in-loop-i
-overflow_add-s-in-loop-i c = let a = c.args in omega (arith, row a.rows c.rows.r c.rows.s a.table.now c.requires.ready.ok c.if-r-rows.true c.rows.invariant.start)
+pub overflow_add-to : goal.overflow_add-to
+overflow_add-to c = let a = c.args in omega (arith, row a.rows c.rows.r c.rows.s a.table.now c.requires.ready.ok c.if-r-rows.true c.rows.invariant.start, c.from.ensures)
 
-pub offset_bounds-table-s-in-loop-i : goal.offset_bounds-table-s-in-loop-i
-offset_bounds-table-s-in-loop-i c = let a = c.args in omega (arith, row a.rows c.rows.r c.rows.s a.table.now c.requires.ready.ok c.if-r-rows.true c.rows.invariant.start)
+pub offset_bounds-table-from : goal.offset_bounds-table-from
+offset_bounds-table-from c = let a = c.args in omega (arith, row a.rows c.rows.r c.rows.s a.table.now c.requires.ready.ok c.if-r-rows.true c.rows.invariant.start, c.from.ensures)
 
-pub bounds-table-s-in-loop-i : goal.bounds-table-s-in-loop-i
-bounds-table-s-in-loop-i c = let a = c.args in omega (arith, row a.rows c.rows.r c.rows.s a.table.now c.requires.ready.ok c.if-r-rows.true c.rows.invariant.start)
+pub slice_bounds-address-items-end : goal.slice_bounds-address-items-end
+slice_bounds-address-items-end c = let a = c.args in omega (arith, row a.rows c.rows.r c.rows.s a.table.now c.requires.ready.ok c.if-r-rows.true c.rows.invariant.start, c.from.ensures)
 
 pub add_address-requires : goal.add_address-requires
 add_address-requires c =
-    let i = c in
-    let l = i in
-    let t = l in
-    let r = t in
-    let s = c in
     let a = c.args in
-    let b = 374 * r.rows.r in
+    let b = 374 * c.rows.r in
+    let w = row a.rows c.rows.r c.rows.s a.table.now c.requires.ready.ok c.if-r-rows.true c.rows.invariant.start in
     record {
-      some = omega (arith, s.requires.ready.rate.few);
-      below = rw c.index.ensures.0 ((row a.rows c.rows.r c.rows.s a.table.now c.requires.ready.ok c.if-r-rows.true c.rows.invariant.start).below l.loop-i.i (omega (arith, l.index-count.ensures.0, i.loop-i-test.true)));
-      bits = length_part b (b + 374) s.args.bits.now (omega (arith, s.requires.ready.long, t.if-r-rows.true)) ∙ omega arith;
-      places = l.loop-i.invariant.adding.same ∙ (c.rows.invariant.adding.same ∙ c.fill.auto.to ∙ c.requires.ready.room);
+      some = omega (arith, c.requires.ready.rate.few);
+      below = rw c.from-in-loop-address.ensures (row_below (positions a.rows) c.rows.s _ _ c.loop-address.address-index a.table.now w (omega arith) (omega (arith, c.from.ensures)) (search rules));
+      bits = length_part b (b + 374) a.bits.now (omega (arith, c.requires.ready.long, c.if-r-rows.true)) ∙ omega arith;
+      places = c.loop-address.invariant.same ∙ (c.rows.invariant.adding.same ∙ c.fill.auto.to ∙ c.requires.ready.room);
     }
 
-pub loop-i-preserved : goal.loop-i-preserved
-loop-i-preserved c =
-    let b = c in
-    let l = b in
-    let r = l in
+pub loop-address-preserved : goal.loop-address-preserved
+loop-address-preserved c =
     let a = c.args in
-    let e = b.index.ensures.0 in
-    record {
-      within = search rules;
-      adding = added_then _ l.loop-i.sums _ _ _ _ l.loop-i.invariant.adding b.add_address.ensures
-          (λ n. rw e (row_stepped_more (spacing a.rows) a.table.now a.bits.now (r.rows.s + 1) l.loop-i.i (374 * r.rows.r) (across (spacing a.rows) 374 n)));
-    }
-
-pub overflow_add-s-then-r-rows : goal.overflow_add-s-then-r-rows
-overflow_add-s-then-r-rows c = let a = c.args in omega (arith, row a.rows c.rows.r c.rows.s a.table.now c.requires.ready.ok c.if-r-rows.true c.rows.invariant.start)
-
-pub overflow_add-s-then-r-rows-2 : goal.overflow_add-s-then-r-rows-2
-overflow_add-s-then-r-rows-2 c = let a = c.args in omega (arith, row a.rows c.rows.r c.rows.s a.table.now c.requires.ready.ok c.if-r-rows.true c.rows.invariant.start)
+    let f = c.rows.s + 1 in
+    let i = c.loop-address.address-index in
+    let e = c.from-in-loop-address.ensures ∙ part_at f (f + c.from.result) i a.table.now (search rules) in
+    added_then _ c.loop-address.sums _ _ _ _ c.loop-address.invariant c.add_address.ensures
+    (λ n. rw e (row_stepped_more (spacing a.rows) a.table.now a.bits.now f i (374 * c.rows.r) (across (spacing a.rows) 374 n)))
 
 pub rows-preserved-then-r-rows : goal.rows-preserved-then-r-rows
 rows-preserved-then-r-rows c =
@@ -114,22 +102,23 @@ rows-preserved-then-r-rows c =
     let r = l in
     let a = c.args in
     let t = a.table.now in
-    let n = l.index-count.ensures.0 in
-    let i : l.loop-i.i ≡ l.index-count.result = omega arith in
+    let n = c.from.ensures in
+    let w = row a.rows c.rows.r c.rows.s t c.requires.ready.ok c.if-r-rows.true c.rows.invariant.start in
+    let p = length_part (c.rows.s + 1) (c.rows.s + 1 + c.from.result) t (omega (arith, w, n)) in
+    let i : c.loop-address.address-index ≡ c.from.result = omega arith in
     let f : min r.rows.r a.rows ≡ r.rows.r = omega arith in
     let g : min (r.rows.r + 1) a.rows ≡ r.rows.r + 1 = omega arith in
     let e : r.rows.s ≡ row_start t r.rows.r = r.rows.invariant.start ∙ ap (row_start t) f in
     record {
-      within = search rules;
       start = rw g (omega (arith, row_start_more t r.rows.r, ap (λ (k : ℕ). get_or t k 0) e));
-      adding = added_then _ r.rows.sums _ _ _ _ r.rows.invariant.adding l.loop-i.invariant.adding
+      adding = added_then _ r.rows.sums _ _ _ _ r.rows.invariant.adding c.loop-address.invariant
           (λ k. times_stepped_next (spacing a.rows) t a.bits.now (across (spacing a.rows) 374 k) r.rows.r r.rows.s _ _ _ _ e f g n i);
       reached = omega (arith, r.rows.invariant.reached);
       passed = r.rows.invariant.passed;
     }
 
 pub loop-init : goal.loop-init
-loop-init c = record { within = search rules; reached = omega arith; passed = c.rows.invariant.passed }
+loop-init c = record { reached = omega arith; passed = c.rows.invariant.passed }
 
 pub bounds-sums-place : goal.bounds-sums-place
 bounds-sums-place c =
@@ -156,10 +145,9 @@ loop-preserved c =
     let a = c.args in
     let h : c.loop.position < positions c.args.rows = omega (arith, c.loop.invariant.reached, c.rows.invariant.reached) in
     rw c.next_place-place.ensures (record {
-      within = search rules;
       reached = omega (arith, l.loop.invariant.reached);
-      passed = passed_more a.rows a.table.now a.bits.now _ r.rows.sums c.requires.ready.ok refl (full a.rows c.rows.r a.table.now a.bits.now a.sums.now c.rows.sums c.fill.new.to c.fill.ensures c.requires.ready.room c.if-r-rows.false c.rows.invariant.adding) a.received.now _ l.loop.last l.loop.position l.loop.place w.wide.result
-          (omega arith) l.loop.invariant.passed h w.wide.ensures.0 (c.if-last-wide.false ∙ c.wide-in-loop.ensures.0);
+      passed = passed_more a.rows a.table.now a.bits.now _ r.rows.sums c.requires.ready.ok refl (full a.rows c.rows.r a.table.now a.bits.now a.sums.now c.rows.sums c.fill.new.to c.fill.ensures c.requires.ready.room c.if-r-rows.false c.rows.invariant.adding) a.received.now _ l.loop.last l.loop.position l.loop.place c.from-in-loop.result
+          (omega arith) l.loop.invariant.passed h c.from-in-loop.ensures (c.if-last-from.false ∙ c.from-in-loop-2.ensures);
     })
 
 pub rows-preserved : goal.rows-preserved
@@ -169,7 +157,6 @@ rows-preserved c =
     let a = c.args in
     let e : min r.rows.r a.rows ≡ min (r.rows.r + 1) a.rows = omega arith in
     record {
-      within = search rules;
       start = r.rows.invariant.start ∙ ap (row_start a.table.now) e;
       adding = added_rows _ _ r.rows.sums a.rows a.table.now a.bits.now refl e r.rows.invariant.adding;
       reached = omega (arith, l.invariant.reached, r.rows.invariant.reached);
@@ -180,18 +167,18 @@ pub returns-after-rows : goal.returns-after-rows
 returns-after-rows c =
     let l = c.rows in
     let a = c.args in
-    let e : l.position ≡ positions a.rows = omega (arith, l.invariant.reached, l.invariant.within) in record { value = sym (lowest_wrong_is a.rows a.table.now a.bits.now a.received.now l.position (omega arith) l.invariant.passed.right (λ h. absurd (omega arith))); added_by_steps = full a.rows c.rows.r a.table.now a.bits.now a.sums.now c.rows.sums c.fill.new.to c.fill.ensures c.requires.ready.room (omega (arith, c.requires.ready.rate.few)) c.rows.invariant.adding }
+    let e : l.position ≡ positions a.rows = omega (arith, l.invariant.reached) in record { value = sym (lowest_wrong_is a.rows a.table.now a.bits.now a.received.now l.position (omega arith) l.invariant.passed.right (λ h. absurd (omega arith))); added_by_steps = full a.rows c.rows.r a.table.now a.bits.now a.sums.now c.rows.sums c.fill.new.to c.fill.ensures c.requires.ready.room (omega (arith, c.requires.ready.rate.few)) c.rows.invariant.adding }
 
-pub returns-then-last-wide : goal.returns-then-last-wide
-returns-then-last-wide c =
+pub returns-then-last-from : goal.returns-then-last-from
+returns-then-last-from c =
     let w = c in
     let l = w in
     let r = l in
     let a = c.args in
     let h : c.loop.position < positions c.args.rows = omega (arith, c.loop.invariant.reached, c.rows.invariant.reached) in
-    let p = (parity_at a.rows a.table.now a.bits.now _ r.rows.sums c.requires.ready.ok refl (full a.rows c.rows.r a.table.now a.bits.now a.sums.now c.rows.sums c.fill.new.to c.fill.ensures c.requires.ready.room c.if-r-rows.false c.rows.invariant.adding) a.received.now l.loop.last l.loop.position l.loop.place w.wide.result
-    l.loop.invariant.passed h w.wide.ensures.0).1 in record {
+    let p = (parity_at a.rows a.table.now a.bits.now _ r.rows.sums c.requires.ready.ok refl (full a.rows c.rows.r a.table.now a.bits.now a.sums.now c.rows.sums c.fill.new.to c.fill.ensures c.requires.ready.room c.if-r-rows.false c.rows.invariant.adding) a.received.now l.loop.last l.loop.position l.loop.place c.from-in-loop.result
+    l.loop.invariant.passed h c.from-in-loop.ensures).1 in record {
       value = sym (lowest_wrong_is a.rows a.table.now a.bits.now a.received.now l.loop.position (omega arith) l.loop.invariant.passed.right
-          (λ _ e. c.if-last-wide.true (p ∙ e ∙ sym c.wide-in-loop.ensures.0)));
+          (λ _ e. c.if-last-from.true (p ∙ e ∙ sym c.from-in-loop-2.ensures)));
       added_by_steps = full a.rows c.rows.r a.table.now a.bits.now a.sums.now c.rows.sums c.fill.new.to c.fill.ensures c.requires.ready.room c.if-r-rows.false c.rows.invariant.adding;
     }

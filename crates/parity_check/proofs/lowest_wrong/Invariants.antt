@@ -2,7 +2,7 @@
 -- others the running sum was right at every position passed.
 use mathlib.Core.Path.{◌≡◌}
 use mathlib.Core.List.{List}
-use Prim.Native.Nat.{ℕ, ◌+◌, ◌*◌, ◌-◌, ◌≤◌, min}
+use Prim.Native.Nat.{ℕ, ◌+◌, ◌*◌, ◌-◌, min}
 use Rattle.parity_table.specs.Tables.{row_start}
 use Rattle.ldpc.specs.Parity.{spacing}
 use Rattle.ldpc.specs.Stepping.{row_stepped, times_stepped}
@@ -13,37 +13,25 @@ use Rattle.parity_check.proofs.lowest_wrong.Given as goal
 
 -- the columns and the parity positions passed, before row r of the slot
 pub record AtRow (rows : ℕ) (table bits received found sums : List ℕ) (s last position place r : ℕ) : Type 0 where
-  pub within : r ≤ 120
   pub start : s ≡ row_start table (min r rows)
   pub adding : Added found sums (λ n. times_stepped (spacing rows) table bits (min r rows) (across (spacing rows) 374 n))
   pub reached : position ≡ 374 * (r - rows)
   pub passed : Passed rows table bits received last position place
 
 -- the addresses of row r passed before address i
-pub record AtAddress (rows : ℕ) (table bits found : List ℕ) (s r count : ℕ) (sums : List ℕ) (i : ℕ) : Type 0 where
-  pub within : i ≤ count
-  pub adding : Added found sums (λ n. row_stepped (spacing rows) table bits (s + 1) i (374 * r) (across (spacing rows) 374 n))
+abbrev pub AtAddress : ℕ → List ℕ → List ℕ → List ℕ → ℕ → ℕ → List ℕ → ℕ → Type 0
+AtAddress rows table bits found s r sums i = Added found sums (λ n. row_stepped (spacing rows) table bits (s + 1) i (374 * r) (across (spacing rows) 374 n))
 
 -- the parity positions of a row passed before the k-th
 pub record AtBit (rows : ℕ) (table bits received : List ℕ) (first last position place k : ℕ) : Type 0 where
-  pub within : k ≤ 374
   pub reached : position ≡ first + k
   pub passed : Passed rows table bits received last position place
 
-abbrev pub invariant-loop-i : goal.invariant-loop-i
-invariant-loop-i l = AtAddress l.rows l.table l.bits l.initial.sums l.s l.r l.count l.sums l.i
-
-abbrev pub decreases-loop-i : goal.decreases-loop-i
-decreases-loop-i l = l.count - l.i
+abbrev pub invariant-loop-address : goal.invariant-loop-address
+invariant-loop-address l = AtAddress l.rows l.table l.bits l.initial.sums l.s l.r l.sums l.address-index
 
 abbrev pub invariant-loop : goal.invariant-loop
 invariant-loop l = AtBit l.rows l.table l.bits l.received l.initial.position l.last l.position l.place l.counter
 
-abbrev pub decreases-loop : goal.decreases-loop
-decreases-loop l = 374 - l.counter
-
 abbrev pub invariant-rows : goal.invariant-rows
 invariant-rows l = AtRow l.rows l.table l.bits l.received l.initial.sums l.sums l.s l.last l.position l.place l.r
-
-abbrev pub decreases-rows : goal.decreases-rows
-decreases-rows l = 120 - l.r

@@ -7,18 +7,18 @@ use Rattle.plan_octets.proofs.put_group.Goals as goal
 pub overflow_cast-octets : goal.overflow_cast-octets
 overflow_cast-octets c = let s = c in record { fits = s.requires.fits.modulation s.args.g (search rules) }
 
-pub overflow_cast-octets-then-g-index : goal.overflow_cast-octets-then-g-index
-overflow_cast-octets-then-g-index c = let s = c in record { fits = s.requires.fits.rate s.args.g (search rules) }
+pub overflow_cast-octets-then-g-from : goal.overflow_cast-octets-then-g-from
+overflow_cast-octets-then-g-from c = let s = c in record { fits = s.requires.fits.rate s.args.g (search rules) }
 
-pub overflow_cast-octets-then-g-index-2 : goal.overflow_cast-octets-then-g-index-2
-overflow_cast-octets-then-g-index-2 c = let s = c in record { fits = s.requires.fits.slots s.args.g (search rules) }
+pub overflow_cast-octets-then-g-from-2 : goal.overflow_cast-octets-then-g-from-2
+overflow_cast-octets-then-g-from-2 c = let s = c in record { fits = s.requires.fits.slots s.args.g (search rules) }
 
-pub returns-then-g-index : goal.returns-then-g-index
-returns-then-g-index c =
+pub returns-then-g-from : goal.returns-then-g-from
+returns-then-g-from c =
     let s = c in
     three_set s.args.octets.now _ _ _ s.requires.long ∙ sym (group_used s.args.plan s.args.g (search rules))
 
-pub returns-else-g-index : goal.returns-else-g-index
-returns-else-g-index c =
+pub returns-else-g-from : goal.returns-else-g-from
+returns-else-g-from c =
     let s = c in
-    c.fill.ensures ∙ rw s.requires.long (sym (group_unused s.args.plan s.args.g (search rules)))
+    c.fill.ensures.after (λ y e. search rules) ∙ rw s.requires.long (sym (group_unused s.args.plan s.args.g (search rules)))

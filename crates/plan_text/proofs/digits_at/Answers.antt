@@ -1,44 +1,29 @@
--- `plan_text::digits_at`: each way out rewrites with the tests on the way to it.
-use mathlib.Core.Path.{◌≡◌, sym, ap, ◌∙◌}
-use Prim.Native.Nat.{◌+◌}
-use lib.ListN.{get_or}
+-- `plan_text::digits_at`: what the chain counts, by the three tests.
+use Rattle.std.proofs.Common.{◌≡◌, refl, ap, ◌∙◌, ℕ, ◌+◌, Bool, true, false, get_or, arith, rules, tests}
+use Rattle.std.specs.List.{prefix_len, range_with_len}
+use Rattle.std.proofs.lemmas.Iterator.{YieldsList-from_range}
+use Rattle.std.proofs.lemmas.Iterator.Consumers.{count_from_yields_List}
+use Rattle.std.proofs.lemmas.Iterator.Search.{YieldsList-from_take_while}
+use Rattle.std.proofs.lemmas.List.Folds.{length-prefix_len}
+use Rattle.lists.specs.Choice.{pick}
 use Rattle.numerals.specs.Numerals.{is_digit}
 use Rattle.plan_text.specs.Reading.{digits_at}
-use Rattle.plan_text.proofs.digits_at.Goals.{After-is_digit, After-is_digit-then-is_digit, After-is_digit-then-is_digit-2}
 use Rattle.plan_text.proofs.digits_at.Goals as goal
 
-first : (c : After-is_digit) → c.is_digit.result ≡ is_digit 10 (get_or c.args.text.now c.args.at 0)
-first c = c.is_digit.ensures ∙ ap (is_digit 10) c.octet_at.ensures
-
-second : (c : After-is_digit-then-is_digit)
-    → c.is_digit-then-is_digit.result ≡ is_digit 10 (get_or c.args.text.now (c.args.at + 1) 0)
-second c = c.is_digit-then-is_digit.ensures ∙ ap (is_digit 10) c.octet_at-then-is_digit.ensures
-
-third : (c : After-is_digit-then-is_digit-2)
-    → c.is_digit-then-is_digit-2.result
-    ≡ is_digit 10 (get_or c.args.text.now (c.args.at + 2) 0)
-third c = c.is_digit-then-is_digit-2.ensures ∙ ap (is_digit 10) c.octet_at-then-is_digit-2.ensures
-
-pub returns-then-is_digit-3 : goal.returns-then-is_digit-3
-unfolding digits_at
-returns-then-is_digit-3 c =
-    let y = c in
-    let x = y in
-    rw (sym (first (record { before = c.before.before.before.before.before.before.before.before; type_inv = record { text = c.shared_slice_known-1.given } })) ∙ x.if-is_digit.true, sym (second (record { before = c.before.before.before.before.before; type_inv = record { text = c.shared_slice_known-1.given } })) ∙ y.if-is_digit-2.true, sym (third (record { before = c.before.before; type_inv = record { text = c.shared_slice_known-1.given } })) ∙ c.if-is_digit-3.true)
-
-pub returns-then-is_digit-2 : goal.returns-then-is_digit-2
-unfolding digits_at
-returns-then-is_digit-2 c =
-    let y = c in
-    let x = y in
-    rw (sym (first (record { before = c.before.before.before.before.before.before.before.before; type_inv = record { text = c.shared_slice_known-1.given } })) ∙ x.if-is_digit.true, sym (second (record { before = c.before.before.before.before.before; type_inv = record { text = c.shared_slice_known-1.given } })) ∙ y.if-is_digit-2.true, sym (third (record { before = c.before.before; type_inv = record { text = c.shared_slice_known-1.given } })) ∙ c.if-is_digit-3.false)
-
-pub returns-then-is_digit : goal.returns-then-is_digit
-unfolding digits_at
-returns-then-is_digit c =
-    let x = c in
-    rw (sym (first (record { before = c.before.before.before.before.before; type_inv = record { text = c.shared_slice_known-1.given } })) ∙ x.if-is_digit.true, sym (second (record { before = c.before.before; type_inv = record { text = c.shared_slice_known-1.given } })) ∙ c.if-is_digit-2.false)
+three : (f : ℕ → Bool) → (a b c : Bool) → f 0 ≡ a → f 1 ≡ b → f 2 ≡ c → prefix_len f (range_with_len 0 3) ≡ pick a (pick b (pick c 3 2) 1) 0
+three f true true true p q r = rw (p, q, r)
+three f true true false p q r = rw (p, q, r)
+three f true false c p q r = rw (p, q)
+three f false b c p q r = rw p
 
 pub returns : goal.returns
 unfolding digits_at
-returns c = rw (sym (first (record { before = c.before.before; type_inv = record { text = c.shared_slice_known-1.given } })) ∙ c.if-is_digit.false)
+returns c =
+    let u = c.args.text.now in
+    let at = c.args.at in
+    let f = λ (k : ℕ). is_digit 10 (get_or u (at + k) 0) in
+    let e : at + 0 ≡ at = omega arith in
+    count_from_yields_List _ _ c.count.ensures.ran
+    (YieldsList-from_take_while _ f (YieldsList-from_range 0 3 3 c.take_while.ensures.source refl) c.take_while.ensures.closure (search rules) (λ x b q k. search (rules, tests)))
+    ∙ length-prefix_len f (range_with_len 0 3)
+    ∙ three f _ _ _ (ap (λ (n : ℕ). is_digit 10 (get_or u n 0)) e) refl refl

@@ -1,36 +1,49 @@
 -- `plan_text::read_line`: the fields are where the definition has them, and near enough.
-use Prim.Native.Nat.{◌≤◌}
-use native.Mathlib.Omega.{arith}
-use borrow.Author.Rules.{rules}
+use Rattle.std.proofs.Common.{arith}
 use Rattle.plan_text.specs.Reading.{field_start, line_ok, line_of}
 use Rattle.plan_text.specs.ReadingLaws.{field_near}
-use Rattle.plan_text.proofs.read_line.Goals.{After-field_end-rate_at, After-field_end-slots_at}
+use Rattle.plan_text.proofs.Picked.{picked_some, picked_none}
 use Rattle.plan_text.proofs.read_line.Goals as goal
 
-second : (c : After-field_end-rate_at) → c.field_end-rate_at.result ≤ 132
-second c = omega (arith, c.field_end-rate_at.ensures, field_near c.args.text.now c.args.at)
+pub returns-in_err-modulation : goal.returns-in_err-modulation
+unfolding field_start line_ok
+returns-in_err-modulation c =
+    let a = picked_none _ _ c.in_err-modulation.ensures in
+    grind arith
 
-third : (c : After-field_end-slots_at) → c.field_end-slots_at.result ≤ 136
-third c = omega (arith, second (record { before = c.before.before; type_inv = record { text = c.shared_slice_known-1.given } }), c.field_end-slots_at.ensures, field_near c.args.text.now c.field_end-rate_at.result)
+pub read_field-requires-2 : goal.read_field-requires-2
+read_field-requires-2 c =
+    let a = picked_some _ _ _ c.in_ok-modulation.ensures in
+    let n = field_near c.args.text.now c.args.at in
+    grind arith
 
-pub field_end-slots_at-requires : goal.field_end-slots_at-requires
-field_end-slots_at-requires c = omega (arith, second c)
+pub returns-in_err-rate : goal.returns-in_err-rate
+unfolding field_start line_ok
+returns-in_err-rate c =
+    let a = picked_some _ _ _ c.in_ok-modulation.ensures in
+    let b = picked_none _ _ c.in_err-rate.ensures in
+    grind arith
 
-pub field_end-next-requires : goal.field_end-next-requires
-field_end-next-requires c = omega (arith, third c)
+pub read_field-requires-3 : goal.read_field-requires-3
+read_field-requires-3 c =
+    let a = picked_some _ _ _ c.in_ok-modulation.ensures in
+    let b = picked_some _ _ _ c.in_ok-rate.ensures in
+    let n = field_near c.args.text.now c.args.at in
+    let m = field_near c.args.text.now c.in_ok-modulation.rate_at in
+    grind arith
 
-pub line_ok-ok-requires : goal.line_ok-ok-requires
-line_ok-ok-requires c = let b = c in record { first = search rules; second = omega (arith, second (record { before = c.before.before.before; type_inv = record { text = c.shared_slice_known-1.given } })); third = omega (arith, third (record { before = c.before.before; type_inv = record { text = c.shared_slice_known-1.given } })) }
-
-pub field_value-rate-requires : goal.field_value-rate-requires
-field_value-rate-requires c = omega (arith, second (record { before = c.before.before.before.before.before; type_inv = record { text = c.shared_slice_known-1.given } }))
-
-pub field_value-slots-requires : goal.field_value-slots-requires
-field_value-slots-requires c = omega (arith, third (record { before = c.before.before.before.before.before; type_inv = record { text = c.shared_slice_known-1.given } }))
+pub returns-in_err-slots : goal.returns-in_err-slots
+unfolding field_start line_ok
+returns-in_err-slots c =
+    let a = picked_some _ _ _ c.in_ok-modulation.ensures in
+    let b = picked_some _ _ _ c.in_ok-rate.ensures in
+    let d = picked_none _ _ c.in_err-slots.ensures in
+    grind arith
 
 pub returns : goal.returns
 unfolding field_start line_ok line_of
 returns c =
-    let v = c in
-    let e = v in
-    rw (v.line_ok-ok.ensures, v.field_value-modulation.ensures, c.field_value-rate.ensures, c.field_value-slots.ensures, e.field_end-next.ensures, e.field_end-slots_at.ensures, e.field_end-rate_at.ensures)
+    let a = picked_some _ _ _ c.in_ok-modulation.ensures in
+    let b = picked_some _ _ _ c.in_ok-rate.ensures in
+    let d = picked_some _ _ _ c.in_ok-slots.ensures in
+    grind arith

@@ -1,77 +1,57 @@
--- `run_list::answer`: the number read decides between the list and the refusal.
-use mathlib.Core.Path.{◌≡◌, sym, ap, ◌∙◌}
-use mathlib.Core.List.{List}
-use Prim.Native.Nat.{ℕ, ◌≤◌}
-use native.Mathlib.Omega.{arith}
-use borrow.Author.Rules.{rules}
-use borrow.Author.Tests.{eq-eqb, ne_eqb}
-use lib.ListN.{length}
-use lib.Dec.{eqb}
-use lib.Seq.{length-take-le}
-use Rattle.lists.specs.Choice.{pick}
-use Rattle.lists.specs.ChoiceLaws.{then_zero}
+-- `run_list::answer`: what was read decides between the list and the refusal.
+use Rattle.std.proofs.Common.{◌≡◌, sym, ap, ◌∙◌, ℕ, ◌≤◌, List, length, arith, rules, Ok, Err, length-take-le}
 use Rattle.lists.specs.Parts.{put}
-use Rattle.plan.specs.Records.{no_plan}
+use Rattle.lists.specs.ChoiceLaws.{then_zero}
+use Rattle.refusal.specs.Answers.{number_of}
+use Rattle.refusal.specs.AnswerLaws.{refused_not_0}
+use Rattle.refusal.specs.declared.Refusal.{Refusal}
+use Rattle.plan.specs.declared.Plan.{Plan}
 use Rattle.plan.specs.Plans.{plan_number}
-use Rattle.plan_text.specs.Reading.{text_number, read_number, plan_of, plan_read}
-use Rattle.run_list.specs.Listing.{list_text, answer_text}
+use Rattle.plan_text.specs.declared.PlanRead.{PlanRead}
+use Rattle.plan_text.specs.Reading.{text_number, read_number, plan_of, as_read, plan_read}
+use Rattle.run_list.specs.Listing.{list_text, refused_text, answer_text}
 use Rattle.run_list.specs.ListingLaws.{length_answer_text}
 use Rattle.run_list.specs.Needs.{Taken}
 use Rattle.texts.specs.Written.{Written}
-use Rattle.run_list.proofs.answer.Goals.{After-read_plan-read}
 use Rattle.run_list.proofs.answer.Goals as goal
 
--- the number and the plan read are the text's
-numbered : (c : After-read_plan-read) → c.read_plan-read.result.number ≡ read_number c.args.text.now
-unfolding plan_read
-numbered c = ap (λ r. r.number) c.read_plan-read.ensures
+-- an accepted text's plan, and its list
+read_ok : (t : List ℕ) (p : Plan) → as_read (Ok p) ≡ plan_read t → (plan_number p ≡ 0) × (list_text p ≡ answer_text t)
+unfolding plan_read read_number answer_text
+read_ok t p e =
+    let z : 0 ≡ read_number t = ap (λ (r : PlanRead). r.number) e in
+    let q : p ≡ plan_of t = ap (λ (r : PlanRead). r.plan) e ∙ rw (← z) in
+    (ap plan_number q ∙ (then_zero (text_number t) _ (sym z)).1, ap list_text q ∙ rw (← z))
 
-planned : (c : After-read_plan-read) → c.read_plan-read.result.number ≡ 0 → c.read_plan-read.result.plan ≡ plan_of c.args.text.now
-unfolding plan_read
-planned c z =
-    let t = c.args.text.now in
-    ap (λ r. r.plan) c.read_plan-read.ensures ∙ ap (λ (n : ℕ). pick (eqb n 0) (plan_of t) no_plan) (sym (numbered c) ∙ z)
+-- a refusal's line
+read_err : (t : List ℕ) (r : Refusal) → as_read (Err r) ≡ plan_read t → refused_text (number_of r) ≡ answer_text t
+unfolding plan_read answer_text
+read_err t r e =
+    let n : number_of r ≡ read_number t = ap (λ (r : PlanRead). r.number) e in
+    rw (← n, refused_not_0 r)
 
 -- an answer written from the area's beginning on
-whole : (x t found area : List ℕ) (n : ℕ) → x ≡ answer_text t → length found ≡ 512 → Written x 0 found area n
-    → (n ≡ length (answer_text t)) × ((area ≡ put 0 (answer_text t) found) × Taken n area)
+record Whole (t found area : List ℕ) (n : ℕ) : Type 0 where
+  value : n ≡ length (answer_text t)
+  out_after : area ≡ put 0 (answer_text t) found
+  taken : Taken n area
+
+whole : (x t found area : List ℕ) (n : ℕ) → x ≡ answer_text t → length found ≡ 512 → Written x 0 found area n → Whole t found area n
 whole x t found area n e l w =
     let m : n ≡ length (answer_text t) = omega (arith, w.reached, ap length e) in
     let h : n ≤ length area = omega (arith, w.same, length_answer_text t) in
-    (m, (w.filled ∙ ap (λ (y : List ℕ). put 0 y found) e, record { within = h; counted = sym (length-take-le n area h) }))
-
-pub returns-then-read-ne0 : goal.returns-then-read-ne0
-unfolding answer_text plan_read
-returns-then-read-ne0 c =
-    let numbered : c.read_plan-read.result.number ≡ read_number c.args.text.now = ap (λ r. r.number) c.read_plan-read.ensures in
-    let b = c in
-    let r = b in
-    let t = r.args.text.now in
-    let q =
-    whole _ t _ _ _ (rw (← numbered, ne_eqb _ 0 b.if-read-ne0.true)) (search rules) c.write_refusal.ensures in
-    record { value = q.0; out_after = q.1.0; taken = q.1.1 }
+    record { value = m; out_after = w.filled ∙ ap (λ (y : List ℕ). put 0 y found) e; taken = record { within = h; counted = sym (length-take-le n area h) } }
 
 pub write_all-requires : goal.write_all-requires
-unfolding read_number plan_read
-write_all-requires c =
-    let numbered : c.read_plan-read.result.number ≡ read_number c.args.text.now = ap (λ r. r.number) c.read_plan-read.ensures in
-    let planned : c.read_plan-read.result.number ≡ 0 → c.read_plan-read.result.plan ≡ plan_of c.args.text.now = λ z.
-    let t = c.args.text.now in
-    ap (λ r. r.plan) c.read_plan-read.ensures ∙ ap (λ (n : ℕ). pick (eqb n 0) (plan_of t) no_plan) (sym (numbered) ∙ z) in
-    let r = c in
-    let t = r.args.text.now in
-    let z = c.if-read-ne0.false in
-    record { plan = ap plan_number (planned z) ∙ (then_zero (text_number t) _ (sym (numbered) ∙ z)).1; long = search rules }
+write_all-requires c = record { plan = (read_ok _ _ c.in-Ok.ensures).0; long = search rules }
 
-pub returns : goal.returns
-unfolding answer_text plan_read
-returns c =
-    let numbered : c.read_plan-read.result.number ≡ read_number c.args.text.now = ap (λ r. r.number) c.read_plan-read.ensures in
-    let planned : c.read_plan-read.result.number ≡ 0 → c.read_plan-read.result.plan ≡ plan_of c.args.text.now = λ z.
-    let t = c.args.text.now in
-    ap (λ r. r.plan) c.read_plan-read.ensures ∙ ap (λ (n : ℕ). pick (eqb n 0) (plan_of t) no_plan) (sym (numbered) ∙ z) in
-    let r = c in
-    let z = c.if-read-ne0.false in
-    let q =
-    whole _ r.args.text.now _ _ _ (ap list_text (planned z) ∙ rw (← numbered, eq-eqb _ 0 z)) (search rules) c.write_all.ensures in
-    record { value = q.0; out_after = q.1.0; taken = q.1.1 }
+pub returns-in-Ok : goal.returns-in-Ok
+returns-in-Ok c =
+    let q = whole _ c.args.text.now _ _ _ (read_ok _ _ c.in-Ok.ensures).1 (search rules) c.write_all.ensures in
+    record { value = q.value; out_after = q.out_after; taken = q.taken }
+
+pub returns-in-Err : goal.returns-in-Err
+returns-in-Err c =
+    let n = c.from.ensures ∙ c.number.ensures in
+    let q = whole _ c.args.text.now _ _ _ (ap refused_text n ∙ read_err _ _ c.in-Err.ensures) (search rules) c.write_refusal.ensures in
+    record { value = q.value; out_after = q.out_after; taken = q.taken }

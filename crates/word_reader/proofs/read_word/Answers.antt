@@ -7,11 +7,13 @@ use lib.ListN.{length, take}
 use lib.Seq.{length-take-le, take_at}
 use borrow.Rule.Slice.PartMut.{put_mid, same_len_mid}
 use Rattle.lists.specs.PartLaws.{take_lent}
+use Rattle.bits.specs.Octets.{bits_of}
 use Rattle.dispersal.specs.Register.{after}
 use Rattle.dispersal.specs.Dispersal.{dispersed}
 use Rattle.dispersal.specs.DispersalLaws.{length_dispersed}
+use Rattle.codeword.specs.declared.Shape.{Shape}
 use Rattle.codeword.specs.Words.{run_bits, register_after}
-use Rattle.codeword.specs.Reading.{taken_off, position_with, checks_number, word_number}
+use Rattle.codeword.specs.Reading.{taken_off, word_answer, checks_number, word_number}
 use Rattle.codeword.proofs.ReadingLaws.{taken_off_bits, wrong_few}
 use Rattle.word_reader.proofs.read_word.Goals as goal
 
@@ -19,85 +21,52 @@ use Rattle.word_reader.proofs.read_word.Goals as goal
 abbrev left : (run : ℕ) (bits off : List ℕ) → List ℕ
 left run bits off = put_mid 0 (run - 0) bits off
 
-pub checks_number-number-requires : goal.checks_number-number-requires
+-- these bits are those of the word with dispersal taken off
+plain : (F : Shape) (mask r n : ℕ) (coded bits off : List ℕ) → n ≡ run_bits F → n ≤ length bits → bits ≡ bits_of coded
+    → off ≡ dispersed F.width mask r (take (n - 0) bits) → take (run_bits F) (left n bits off) ≡ taken_off F mask r coded
 unfolding taken_off
-checks_number-number-requires c =
-    let room : (let w = c in w.run_bits-run.result ≤ length w.wrong_position-wrong.new.bits) =
-    let w = c in
-    let k = w in
-    let g = k.requires.checked.lent in
-    omega (arith, k.run_bits-run.ensures, w.wrong_position-wrong.auto.bits, g.fits.whole, g.bits_long) in
-    let kept : length (left c.run_bits-run.result c.wrong_position-wrong.new.bits c.disperse-next.new.run) ≡ length c.wrong_position-wrong.new.bits =
-    let w = c in
-    same_len_mid 0 (w.run_bits-run.result - 0) w.wrong_position-wrong.new.bits c.disperse-next.new.run c.disperse-next.auto.run in
-    let plain : (let a = c.args in take (run_bits a.shape) (left c.run_bits-run.result c.wrong_position-wrong.new.bits c.disperse-next.new.run) ≡ taken_off a.shape a.mask a.register a.coded.now) =
-    let w = c in
-    let k = w in
-    let a = k.args in
+plain F mask r n coded bits off e h b d =
+    let l : length off ≡ run_bits F = ap length d ∙ length_dispersed F.width mask r (take (n - 0) bits) ∙ length-take-le (n - 0) bits (omega arith) ∙ omega arith in
+    take_at off _ (run_bits F) l ∙ d ∙ ap (dispersed F.width mask r) (take_lent n (run_bits F) bits e ∙ ap (take (run_bits F)) b)
+
+pub check_word-requires : goal.check_word-requires
+check_word-requires c =
+    let a = c.args in
     let F = a.shape in
-    let all = w.wrong_position-wrong.new.bits in
-    let n = k.run_bits-run.result in
-    let e = c.disperse-next.ensures.run_after in
-    let l : length c.disperse-next.new.run ≡ run_bits F = ap length e ∙ length_dispersed F.width a.mask a.register (take (n - 0) all) ∙ length-take-le (n - 0) all (omega (arith, room)) ∙ omega (arith, k.run_bits-run.ensures) in
-    take_at c.disperse-next.new.run _ (run_bits F) l
-    ∙ e
-    ∙ ap (dispersed F.width a.mask a.register) (take_lent n (run_bits F) all k.run_bits-run.ensures ∙ ap (take (run_bits F)) w.wrong_position-wrong.ensures.bits_after) in
-    let d = c in
-    let k = d in
-    let s = k in
-    let a = s.args in
-    let n = k.run_bits-run.result in
-    let h : n ≤ length (left c.run_bits-run.result c.wrong_position-wrong.new.bits c.disperse-next.new.run) = omega (arith, room, kept) in
+    let g = c.requires.checked.lent in
+    let n = c.run_bits-run.result in
+    let all = c.wrong_position-wrong.new.bits in
+    let e = c.run_bits-run.ensures in
+    let room : n ≤ length all = omega (arith, e, c.wrong_position-wrong.auto.bits, g.fits.whole, g.bits_long) in
+    let p = plain F a.mask a.register n a.coded.now all _ e room c.wrong_position-wrong.ensures.bits_after c.disperse-next.ensures.run_after in
+    let u = left n all c.disperse-next.new.run in
+    let kept : length u ≡ length all = same_len_mid 0 (n - 0) all c.disperse-next.new.run c.disperse-next.auto.run in
     record {
-      fits = s.requires.checked.lent.fits;
-      long = length-take-le (n - 0) (left c.run_bits-run.result c.wrong_position-wrong.new.bits c.disperse-next.new.run) (omega arith) ∙ omega (arith, k.run_bits-run.ensures);
-      bits = rw (take_lent n (run_bits a.shape) (left c.run_bits-run.result c.wrong_position-wrong.new.bits c.disperse-next.new.run) k.run_bits-run.ensures, plain) (taken_off_bits a.shape a.coded.now a.mask a.register);
+      run = record {
+        fits = g.fits;
+        long = length-take-le (n - 0) u (omega (arith, room, kept)) ∙ omega (arith, e);
+        bits = rw (take_lent n (run_bits F) u e, p) (taken_off_bits F a.coded.now a.mask a.register);
+      };
+      few = omega (arith, c.wrong_position-wrong.ensures.value, wrong_few F a.table.now a.coded.now, e, g.fits.input);
     }
 
-pub position_with-requires : goal.position_with-requires
-position_with-requires c =
-    let w = c in
-    let k = w in
-    let s = k in
-    let f = s.requires.checked.lent.fits in
-    omega (arith, w.wrong_position-wrong.ensures.value, wrong_few s.args.shape s.args.table.now s.args.coded.now, k.run_bits-run.ensures, f.input)
-
 pub returns : goal.returns
-unfolding register_after taken_off word_number
+unfolding register_after word_number
 returns c =
-    let room : (let w = c in w.run_bits-run.result ≤ length w.wrong_position-wrong.new.bits) =
-    let w = c in
-    let k = w in
-    let g = k.requires.checked.lent in
-    omega (arith, k.run_bits-run.ensures, w.wrong_position-wrong.auto.bits, g.fits.whole, g.bits_long) in
-    let plain : (let a = c.args in take (run_bits a.shape) (left c.run_bits-run.result c.wrong_position-wrong.new.bits c.disperse-next.new.run) ≡ taken_off a.shape a.mask a.register a.coded.now) =
-    let w = c in
-    let k = w in
-    let a = k.args in
+    let a = c.args in
     let F = a.shape in
-    let all = w.wrong_position-wrong.new.bits in
-    let n = k.run_bits-run.result in
-    let e = c.disperse-next.ensures.run_after in
-    let l : length c.disperse-next.new.run ≡ run_bits F = ap length e ∙ length_dispersed F.width a.mask a.register (take (n - 0) all) ∙ length-take-le (n - 0) all (omega (arith, room)) ∙ omega (arith, k.run_bits-run.ensures) in
-    take_at c.disperse-next.new.run _ (run_bits F) l
-    ∙ e
-    ∙ ap (dispersed F.width a.mask a.register) (take_lent n (run_bits F) all k.run_bits-run.ensures ∙ ap (take (run_bits F)) w.wrong_position-wrong.ensures.bits_after) in
-    let number_is : (let a = c.args in c.checks_number-number.result ≡ word_number a.shape a.table.now a.mask a.register a.coded.now) =
-    let d = c in
-    let w = d in
-    let k = w in
-    let F = k.args.shape in
-    c.checks_number-number.ensures ∙ ap₂ (checks_number F) w.wrong_position-wrong.ensures.value (take_lent k.run_bits-run.result (run_bits F) (left c.run_bits-run.result c.wrong_position-wrong.new.bits c.disperse-next.new.run) k.run_bits-run.ensures ∙ plain) in
-    let n = c in
-    let d = n in
-    let w = d in
-    let k = w in
-    let a = k.args in
-    let b = k.run_bits-run.result in
-    let l : length (take (b - 0) w.wrong_position-wrong.new.bits) ≡ run_bits a.shape = length-take-le (b - 0) w.wrong_position-wrong.new.bits (omega (arith, room)) ∙ omega (arith, k.run_bits-run.ensures) in
+    let g = c.requires.checked.lent in
+    let n = c.run_bits-run.result in
+    let all = c.wrong_position-wrong.new.bits in
+    let e = c.run_bits-run.ensures in
+    let room : n ≤ length all = omega (arith, e, c.wrong_position-wrong.auto.bits, g.fits.whole, g.bits_long) in
+    let p = plain F a.mask a.register n a.coded.now all _ e room c.wrong_position-wrong.ensures.bits_after c.disperse-next.ensures.run_after in
+    let u = left n all c.disperse-next.new.run in
+    let told = c.check_word.ensures ∙ ap₂ (λ (w : ℕ) (v : List ℕ). word_answer (checks_number F w v) w) c.wrong_position-wrong.ensures.value (take_lent n (run_bits F) u e ∙ p) in
+    let l : length (take (n - 0) all) ≡ run_bits F = length-take-le (n - 0) all (omega (arith, room)) ∙ omega (arith, e) in
     record {
-      number = number_is;
-      position = c.position_with.ensures ∙ ap₂ position_with (number_is) w.wrong_position-wrong.ensures.value;
-      register = d.disperse-next.ensures.value ∙ ap (after a.shape.width a.mask a.register) l;
-      plain = plain;
+      number = ap (λ a. a.number) told;
+      position = ap (λ a. a.position) told;
+      register = c.disperse-next.ensures.value ∙ ap (after F.width a.mask a.register) l;
+      plain = p;
     }

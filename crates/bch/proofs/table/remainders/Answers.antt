@@ -4,9 +4,8 @@ use Rattle.lists.specs.Count.{table}
 use Rattle.bch.specs.Polynomials.{◌⊕◌, coefficient}
 use Rattle.bch.specs.Division.{remainder}
 use Rattle.bch.proofs.GeneratorLaws.{generator_number}
-use Rattle.bch.specs.Words.{threes}
 use Rattle.bch.proofs.table.remainders.Goals as goal
 
 pub returns : goal.returns
-unfolding threes table remainder coefficient ◌⊕◌
+unfolding table remainder coefficient ◌⊕◌
 returns c = record { rule = rw generator_number refl }

@@ -1,32 +1,44 @@
 -- `bits::collect`: the area is filled with the octets that the bits make.
-use mathlib.Core.Path.{refl}
-use Prim.Native.Nat.{◌+◌}
-use native.Mathlib.Omega.{arith}
-use lib.ListN.{length}
-use borrow.Author.Rules.{rules}
-use Rattle.lists.specs.FillingLaws.{filling_none, filling_more, filling_all}
+use Rattle.std.proofs.Common.{◌+◌, ◌*◌, length, arith, rules}
+use Rattle.lists.specs.FillingLaws.{filling_none, filling_more}
 use Rattle.lists.specs.RunLaws.{below_part}
-use Rattle.bits.specs.OctetLaws.{length_octets_of}
-use Rattle.bits.proofs.Turns.{eight_part, collect_turn}
+use Rattle.bits.specs.OctetLaws.{length_octets_of, octets_of_octets}
+use Rattle.bits.proofs.Turns.{collect_turn, next_eight}
 use Rattle.bits.proofs.octets.collect.Goals as goal
 
 pub loop-i-init : goal.loop-i-init
-loop-i-init c = record { place = refl; filling = filling_none _ _ (length_octets_of _ _) }
+loop-i-init c = record { rest = search rules; size = search rules; filling = search (rules, filling_none, length_octets_of) }
 
 pub gather-requires : goal.gather-requires
 gather-requires c =
+    let s = c.in-Some.ensures.steps.0.1 in
     let l = c.loop-i in
-    let s = c in
-    let n = eight_part l.at s.args.bits.now (search rules) in
-    record { few = omega arith; bits = below_part 1 l.at (l.at + 8) s.args.bits.now s.requires.bits }
+    let u = c.args.bits.now in
+    let k = l.i-iterator.count in
+    let t = next_eight u _ _ _ k _ l.invariant.rest s.0 s.1 l.invariant.size in
+    record { few = omega arith; bits = rw t.is (below_part 1 (8 * k) (8 * k + 8) u c.requires.bits) }
+
+pub overflow_cast-octets : goal.overflow_cast-octets
+overflow_cast-octets c =
+    let s = c.in-Some.ensures.steps.0.1 in
+    let l = c.loop-i in
+    let u = c.args.bits.now in
+    let k = l.i-iterator.count in
+    let n = length c.args.octets.now in
+    let t = next_eight u _ _ _ k _ l.invariant.rest s.0 s.1 l.invariant.size in
+    omega (arith, octets_of_octets n u c.requires.bits k, collect_turn u _ _ n k _ t (omega arith) c.gather.ensures)
 
 pub loop-i-preserved : goal.loop-i-preserved
 loop-i-preserved c =
+    let s = c.in-Some.ensures.steps in
     let l = c.loop-i in
-    let s = c in
-    let n = eight_part l.at s.args.bits.now (search rules) in
-    let v = collect_turn s.args.bits.now (length s.args.octets.now) l.i l.at _ _ (search rules) l.invariant.place n s.requires.bits c.gather.ensures in
-    record { place = omega (arith, l.invariant.place); filling = filling_more _ _ l.i l.octets l.invariant.filling _ (search rules) v }
-
-pub returns : goal.returns
-returns c = let l = c.loop-i in filling_all _ _ l.i l.octets l.invariant.filling (search rules)
+    let u = c.args.bits.now in
+    let k = l.i-iterator.count in
+    let t = next_eight u _ _ _ k _ l.invariant.rest s.0.1.0 s.0.1.1 l.invariant.size in
+    let v = collect_turn u _ _ (length c.args.octets.now) k _ t (omega arith) c.gather.ensures in
+    rw (s.2, s.1)
+    (record {
+      rest = t.behind;
+      size = search rules;
+      filling = filling_more _ _ k l.octets l.invariant.filling _ (omega arith) v;
+    })

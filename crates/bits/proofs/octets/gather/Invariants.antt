@@ -1,12 +1,8 @@
 -- `bits::gather`: the number that the bits passed make.
 use mathlib.Core.Path.{◌≡◌}
-use Prim.Native.Nat.{◌-◌, ◌^◌, ◌<◌, ◌≤◌}
-use lib.ListN.{length}
+use Prim.Native.Nat.{◌^◌, ◌<◌}
 use Rattle.bits.specs.Digits.{number}
 use Rattle.bits.proofs.octets.gather.Given as goal
 
-abbrev pub invariant-loop-k : goal.invariant-loop-k
-invariant-loop-k l = (l.k ≤ length l.bits) × (l.made ≡ number l.k l.bits) × (l.made < 2 ^ 63)
-
-abbrev pub decreases-loop-k : goal.decreases-loop-k
-decreases-loop-k l = length l.bits - l.k
+abbrev pub invariant-loop-bit : goal.invariant-loop-bit
+invariant-loop-bit l = (l.made ≡ number l.bit-index l.bits) × (l.made < 2 ^ 63)

@@ -1,22 +1,11 @@
--- `dispersal::mask_ok`: the two tests are those of the definition, with the shifts as powers.
-use Prim.Native.Nat.{◌-◌, ◌^◌, ◌≤◌, ◌<◌}
-use native.Mathlib.Omega.{arith}
-use borrow.Author.Rules.{rules}
-use borrow.Author.Tests.{le-leb, lt-leb}
+-- `dispersal::mask_ok`: the range is that of the definition, with the shifts as powers.
+use Rattle.std.proofs.Common.{◌-◌, ◌^◌, ◌∙◌, arith}
 use Rattle.dispersal.specs.Register.{mask_ok}
-use Rattle.dispersal.proofs.Shift.{weight}
+use Rattle.dispersal.proofs.Shift.{weight, in_range}
 use Rattle.dispersal.proofs.register.mask_ok.Goals as goal
-
-pub returns-then-mask-weight : goal.returns-then-mask-weight
-unfolding mask_ok
-returns-then-mask-weight c =
-    let a = c.args in
-    let h : a.mask < 2 ^ (a.width - 1) = omega (arith, weight (a.width - 1) (search rules)) in
-    rw (lt-leb (2 ^ (a.width - 1)) a.mask h)
 
 pub returns : goal.returns
 unfolding mask_ok
 returns c =
-    let a = c.args in
-    let h : 2 ^ (a.width - 1) ≤ a.mask = omega (arith, weight (a.width - 1) (search rules)) in
-    rw (le-leb (2 ^ (a.width - 1)) a.mask h, weight a.width (search rules))
+    let w = c.args.width in
+    c.contains.ensures.value ∙ rw (weight (w - 1) (omega arith), weight w (omega arith)) (in_range (2 ^ (w - 1)) c.args.mask (2 ^ w))

@@ -2,20 +2,16 @@
 -- is the one after the bits passed.
 use mathlib.Core.Path.{◌≡◌}
 use mathlib.Core.List.{List}
-use Prim.Native.Nat.{ℕ, ◌-◌, ◌^◌, ◌<◌}
-use lib.ListN.{length}
+use Prim.Native.Nat.{ℕ, ◌^◌, ◌<◌}
 use Rattle.lists.specs.Filling.{Filling}
 use Rattle.dispersal.specs.Register.{after}
 use Rattle.dispersal.specs.Dispersal.{dispersed}
 use Rattle.dispersal.proofs.run.disperse_bits.Given as goal
 
-pub record Inv (width mask register : ℕ) (found run : List ℕ) (held i : ℕ) : Type 0 where
+pub record Inv (width mask register : ℕ) (found run : List ℕ) (held n : ℕ) : Type 0 where
   pub small : held < 2 ^ width
-  pub reached : held ≡ after width mask register i
-  pub filling : Filling (dispersed width mask register found) found i run
+  pub reached : held ≡ after width mask register n
+  pub filling : Filling (dispersed width mask register found) found n run
 
-abbrev pub invariant-loop-i : goal.invariant-loop-i
-invariant-loop-i l = Inv l.width l.mask l.register l.initial.run l.run l.held l.i
-
-abbrev pub decreases-loop-i : goal.decreases-loop-i
-decreases-loop-i l = length l.initial.run - l.i
+abbrev pub invariant-loop-bit : goal.invariant-loop-bit
+invariant-loop-bit l = Inv l.width l.mask l.register l.initial.run l.run l.held l.bit-index

@@ -1,24 +1,22 @@
--- `dispersal::run::disperse_parts`: the area is filled with the dispersed run in two parts.
-use Prim.Native.Nat.{◌-◌, ◌%◌, ◌≤◌}
-use native.Mathlib.Omega.{arith}
-use lib.ListN.{length}
-use borrow.Author.Rules.{rules}
+-- `dispersal::run::disperse_parts`: the run is dispersed in two parts.
+use Rattle.std.proofs.Common.{arith}
 use Rattle.dispersal.specs.RegisterLaws.{after_lt}
 use Rattle.dispersal.proofs.TwoParts.{after_both, both_parts}
 use Rattle.dispersal.proofs.run.disperse_parts.Goals as goal
 
 pub disperse_bits-requires : goal.disperse_bits-requires
 disperse_bits-requires c =
-    let e = c in
-    let t = e.requires in
-    record { low = search rules; high = t.high; small = rw e.disperse_eights-held.ensures.value (after_lt _ _ _ _ t.small) }
+    let s = c.args.steps.now in
+    record { low = omega arith; high = s.high; small = rw c.disperse_eights-held.ensures.value (after_lt _ _ _ _ c.requires) }
 
 pub returns : goal.returns
 returns c =
-    let b = c in
-    let e = b in
-    let a = e.args in
-    let n = length a.run.now in
-    let h : n - n % 8 ≤ n = omega arith in
-    let p = e.disperse_eights-held.ensures.run_after in
-    let q = e.disperse_eights-held.ensures.value in record { value = after_both a.width a.mask a.register (n - n % 8) _ a.run.now _ h p q _ b.disperse_bits.ensures.value; run_after = both_parts a.width a.mask a.register (n - n % 8) _ a.run.now _ h p q _ b.disperse_bits.ensures.run_after }
+    let a = c.args in
+    let s = a.steps.now in
+    let h = c.disperse_eights-held.ensures in
+    let d = c.disperse_bits.ensures in
+    let e = c.split_at_mut-eights.ensures.value in
+    record {
+      value = after_both s.width s.mask a.register _ a.run.now _ _ e h.value _ d.value;
+      run_after = both_parts s.width s.mask a.register _ a.run.now _ _ e h.value _ _ h.run_after d.run_after;
+    }

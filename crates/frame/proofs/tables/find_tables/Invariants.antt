@@ -2,7 +2,7 @@
 use mathlib.Core.Path.{◌≡◌}
 use mathlib.Core.Bool.{true}
 use mathlib.Core.List.{List}
-use Prim.Native.Nat.{ℕ, ◌-◌, ◌<◌, ◌≤◌}
+use Prim.Native.Nat.{ℕ, ◌<◌, ◌≤◌}
 use lib.ListN.{length, get_or}
 use Rattle.parity_table.specs.Tables.{table_ok}
 use Rattle.plan.specs.declared.Plan.{Plan}
@@ -15,12 +15,10 @@ use Rattle.frame.proofs.tables.find_tables.Given as goal
 pub record Passed (p : Plan) (ts ends : List ℕ) (g at : ℕ) : Type 0 where
   pub here : g ≤ p.count
   pub at_is : at ≡ table_from p ts g
+  pub within : at ≤ length ts
   pub long : length ends ≡ 9
   pub ends_are : (i : ℕ) → i ≤ g → get_or ends i 0 ≡ table_from p ts i
   pub ok : (i : ℕ) → i < g → table_ok (rows_of (rate_of p i)) (table_of p ts i) ≡ true
 
 abbrev pub invariant-loop-g : goal.invariant-loop-g
-invariant-loop-g l = (l.count ≡ l.plan.count) × Passed l.plan l.tables l.ends l.g l.at
-
-abbrev pub decreases-loop-g : goal.decreases-loop-g
-decreases-loop-g l = l.count - l.g
+invariant-loop-g l = Passed l.plan l.tables l.ends l.g l.at

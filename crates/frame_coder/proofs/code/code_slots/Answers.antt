@@ -12,8 +12,8 @@ use Rattle.plan.specs.declared.Plan.{Plan}
 use Rattle.plan.specs.declared.FrameState.{FrameState}
 use Rattle.plan.specs.declared.Answer.{Answer}
 use Rattle.plan.specs.Sizes.{slot_octets}
-use Rattle.plan.specs.States.{opened}
-use Rattle.plan.proofs.StateLaws.{open_sound}
+use Rattle.plan.specs.States.{opened, zeros}
+use Rattle.plan.proofs.StateLaws.{open_sound, answers_state}
 use Rattle.frame.specs.Steps.{coded_at, state_after}
 use Rattle.frame.specs.Frames.{slot_in, octets_of_slot, source_from, source_in, frame_of}
 use Rattle.frame.proofs.FrameLaws.{source_from_none, source_from_more, source_from_mono, first_state, state_more, length_slot_in, length_frame_of, slot_at}
@@ -85,7 +85,11 @@ lies c =
     )
 
 pub loop-k-init : goal.loop-k-init
-loop-k-init c = none c.requires c.open-opened.ensures
+loop-k-init c = none c.requires (rw c.unwrap-state.ensures at c.open.ensures)
+
+pub unwrap-state-requires : goal.unwrap-state-requires
+unfolding opened
+unwrap-state-requires c = answers_state zeros _ (ap (λ r. r.number) c.open.ensures ∙ c.requires.lent.opened)
 
 pub slot_octets-requires : goal.slot_octets-requires
 slot_octets-requires c =

@@ -1,7 +1,7 @@
 -- `frame_coder::code_slots`: the frame is filled slot by slot, with the state and the place in the source that belong to each.
 use mathlib.Core.Path.{◌≡◌}
 use mathlib.Core.List.{List}
-use Prim.Native.Nat.{ℕ, ◌*◌, ◌-◌, ◌≤◌}
+use Prim.Native.Nat.{ℕ, ◌*◌, ◌≤◌}
 use Rattle.lists.specs.Filling.{Filling}
 use Rattle.plan.specs.declared.Plan.{Plan}
 use Rattle.plan.specs.declared.FrameState.{FrameState}
@@ -18,6 +18,3 @@ pub record Inv (p : Plan) (mask start : ℕ) (ts source found area : List ℕ) (
 
 abbrev pub invariant-loop-k : goal.invariant-loop-k
 invariant-loop-k l = Inv l.plan l.mask l.start l.tables l.source l.initial.frame l.frame l.state l.from l.k
-
-abbrev pub decreases-loop-k : goal.decreases-loop-k
-decreases-loop-k l = 120 - l.k

@@ -11,15 +11,14 @@ use Rattle.lists.specs.FillingLaws.{filling_none, filling_rest, filling_more, fi
 use Rattle.plan.specs.declared.Plan.{Plan}
 use Rattle.plan.specs.declared.FrameState.{FrameState}
 use Rattle.plan.specs.Sizes.{slot_octets}
-use Rattle.plan.specs.States.{opened}
-use Rattle.plan.proofs.StateLaws.{open_sound}
+use Rattle.plan.specs.States.{opened, zeros}
+use Rattle.plan.proofs.StateLaws.{open_sound, answers_state}
 use Rattle.frame.specs.Steps.{answer_at, stuff_at, position_at, read_at, state_after}
 use Rattle.frame.specs.Frames.{slot_in, octets_of_slot, source_from, source_in, sources_of}
 use Rattle.frame.proofs.FrameLaws.{source_from_none, source_from_more, source_from_mono, first_state, state_more, length_slot_in, length_sources_of, length_answers_of, answer_at_law, length_stuffs_of, stuff_at_law, length_positions_of, position_at_law, source_at}
 use Rattle.frame.proofs.PlacedLaws.{placed_at}
 use Rattle.frame_reader.specs.Needs.{Reading, Answering}
 use Rattle.frame_reader.proofs.read.read_slots.Invariants.{Passed}
-use Rattle.frame_reader.proofs.read.read_slots.Goals.{After-slot_octets}
 use Rattle.frame_reader.proofs.read.read_slots.Goals as goal
 
 -- slot k + 1, with header and data octets before `to`, can be read; then one slot more is
@@ -87,103 +86,88 @@ module _ (p : Plan) (mask start : ℕ) (ts ends frame found asked told named : L
             };
       }
 
--- the turn at a place of the code
-turn_at : (c : After-slot_octets)
-    → let l = c.loop-k in
-    let a = c.args in
-    Turn a.plan a.mask a.start a.tables.now a.ends.now a.frame.now a.source.now a.answers.now a.stuff.now a.positions.now l.source l.answers l.stuff l.positions l.state l.from l.k (l.from + c.slot_octets.result)
-turn_at c =
-    let l = c.loop-k in
-    let s = c in
-    turn _ _ _ _ _ _ _ _ _ _ s.requires _ _ _ _ _ _ _ _ l.invariant (omega arith) (ap (λ (n : ℕ). l.from + n) c.slot_octets.ensures)
+pub unwrap-state-requires : goal.unwrap-state-requires
+unfolding opened
+unwrap-state-requires c = answers_state zeros _ (ap (λ r. r.number) c.open.ensures ∙ c.requires.framed.lent.opened)
 
 pub loop-k-init : goal.loop-k-init
 loop-k-init c =
-    let s = c in
-    none_passed _ _ _ _ _ _ _ _ _ _ s.requires _ (ap (λ r. r.state) c.open-opened.ensures)
+    let a = c.args in
+    none_passed a.plan a.mask a.start a.tables.now a.ends.now a.frame.now a.source.now a.answers.now a.stuff.now a.positions.now c.requires _ (ap (λ r. r.state) (rw c.unwrap-state.ensures at c.open.ensures))
 
 pub slot_octets-requires : goal.slot_octets-requires
-slot_octets-requires c =
-    let s = c in
-    record { plan = (open_sound _ _ _ s.requires.framed.lent.opened).plan; low = omega arith; high = omega arith }
+slot_octets-requires c = record { plan = (open_sound _ _ _ c.requires.framed.lent.opened).plan; low = omega arith; high = omega arith }
 
 pub overflow_add-to : goal.overflow_add-to
 overflow_add-to c =
-    let s = c in
-    omega (arith, (turn_at c).within, c.loop-k.invariant.sources.same, s.well_formed.1.1.1.1.1.1.0.0)
-
-pub slice_bounds-read_place-count : goal.slice_bounds-read_place-count
-slice_bounds-read_place-count c = omega arith
+    let l = c.loop-k in
+    let a = c.args in
+    let t = turn a.plan a.mask a.start a.tables.now a.ends.now a.frame.now a.source.now a.answers.now a.stuff.now a.positions.now c.requires l.source l.answers l.stuff l.positions l.state l.from l.k _ l.invariant (omega arith) (ap (λ (n : ℕ). l.from + n) c.slot_octets.ensures) in
+    search rules
 
 pub slice_bounds-read_place-start : goal.slice_bounds-read_place-start
-slice_bounds-read_place-start c = let h = turn_at c in search rules
+slice_bounds-read_place-start c =
+    let l = c.loop-k in
+    let a = c.args in
+    let t = turn a.plan a.mask a.start a.tables.now a.ends.now a.frame.now a.source.now a.answers.now a.stuff.now a.positions.now c.requires l.source l.answers l.stuff l.positions l.state l.from l.k _ l.invariant (omega arith) (ap (λ (n : ℕ). l.from + n) c.slot_octets.ensures) in
+    search rules
 
 pub slice_bounds-read_place-end : goal.slice_bounds-read_place-end
-slice_bounds-read_place-end c = let h = turn_at c in search rules
-
-pub slice_bounds-read_place-count-in-loop-k : goal.slice_bounds-read_place-count-in-loop-k
-slice_bounds-read_place-count-in-loop-k c = omega arith
+slice_bounds-read_place-end c =
+    let l = c.loop-k in
+    let a = c.args in
+    let t = turn a.plan a.mask a.start a.tables.now a.ends.now a.frame.now a.source.now a.answers.now a.stuff.now a.positions.now c.requires l.source l.answers l.stuff l.positions l.state l.from l.k _ l.invariant (omega arith) (ap (λ (n : ℕ). l.from + n) c.slot_octets.ensures) in
+    search rules
 
 pub slice_bounds-read_place-start-in-loop-k : goal.slice_bounds-read_place-start-in-loop-k
 slice_bounds-read_place-start-in-loop-k c =
-    let turn_at : (let l = c.loop-k in let a = c.args in Turn a.plan a.mask a.start a.tables.now a.ends.now a.frame.now a.source.now a.answers.now a.stuff.now a.positions.now l.source l.answers l.stuff l.positions l.state l.from l.k (l.from + c.slot_octets.result)) =
     let l = c.loop-k in
-    let s = c in
-    turn _ _ _ _ _ _ _ _ _ _ s.requires _ _ _ _ _ _ _ _ l.invariant (omega arith) (ap (λ (n : ℕ). l.from + n) c.slot_octets.ensures) in
-    let h = turn_at in search rules
+    let a = c.args in
+    let t = turn a.plan a.mask a.start a.tables.now a.ends.now a.frame.now a.source.now a.answers.now a.stuff.now a.positions.now c.requires l.source l.answers l.stuff l.positions l.state l.from l.k _ l.invariant (omega arith) (ap (λ (n : ℕ). l.from + n) c.slot_octets.ensures) in
+    search rules
 
 pub slice_bounds-read_place-end-in-loop-k : goal.slice_bounds-read_place-end-in-loop-k
 slice_bounds-read_place-end-in-loop-k c =
-    let turn_at : (let l = c.loop-k in let a = c.args in Turn a.plan a.mask a.start a.tables.now a.ends.now a.frame.now a.source.now a.answers.now a.stuff.now a.positions.now l.source l.answers l.stuff l.positions l.state l.from l.k (l.from + c.slot_octets.result)) =
     let l = c.loop-k in
-    let s = c in
-    turn _ _ _ _ _ _ _ _ _ _ s.requires _ _ _ _ _ _ _ _ l.invariant (omega arith) (ap (λ (n : ℕ). l.from + n) c.slot_octets.ensures) in
-    let h = turn_at in search rules
+    let a = c.args in
+    let t = turn a.plan a.mask a.start a.tables.now a.ends.now a.frame.now a.source.now a.answers.now a.stuff.now a.positions.now c.requires l.source l.answers l.stuff l.positions l.state l.from l.k _ l.invariant (omega arith) (ap (λ (n : ℕ). l.from + n) c.slot_octets.ensures) in
+    search rules
 
 pub read_place-read-requires : goal.read_place-read-requires
 read_place-read-requires c =
-    let turn_at : (let l = c.loop-k in let a = c.args in Turn a.plan a.mask a.start a.tables.now a.ends.now a.frame.now a.source.now a.answers.now a.stuff.now a.positions.now l.source l.answers l.stuff l.positions l.state l.from l.k (l.from + c.slot_octets.result)) =
     let l = c.loop-k in
-    let s = c in
-    turn _ _ _ _ _ _ _ _ _ _ s.requires _ _ _ _ _ _ _ _ l.invariant (omega arith) (ap (λ (n : ℕ). l.from + n) c.slot_octets.ensures) in
-    (turn_at).reading
+    let a = c.args in
+    let t = turn a.plan a.mask a.start a.tables.now a.ends.now a.frame.now a.source.now a.answers.now a.stuff.now a.positions.now c.requires l.source l.answers l.stuff l.positions l.state l.from l.k _ l.invariant (omega arith) (ap (λ (n : ℕ). l.from + n) c.slot_octets.ensures) in
+    t.reading
 
 pub bounds-answers-k : goal.bounds-answers-k
 bounds-answers-k c =
-    let turn_at : (let l = c.loop-k in let a = c.args in Turn a.plan a.mask a.start a.tables.now a.ends.now a.frame.now a.source.now a.answers.now a.stuff.now a.positions.now l.source l.answers l.stuff l.positions l.state l.from l.k (l.from + c.slot_octets.result)) =
     let l = c.loop-k in
-    let s = c in
-    turn _ _ _ _ _ _ _ _ _ _ s.requires _ _ _ _ _ _ _ _ l.invariant (omega arith) (ap (λ (n : ℕ). l.from + n) c.slot_octets.ensures) in
-    (turn_at).answer_within
+    let a = c.args in
+    let t = turn a.plan a.mask a.start a.tables.now a.ends.now a.frame.now a.source.now a.answers.now a.stuff.now a.positions.now c.requires l.source l.answers l.stuff l.positions l.state l.from l.k _ l.invariant (omega arith) (ap (λ (n : ℕ). l.from + n) c.slot_octets.ensures) in
+    t.answer_within
 
 pub bounds-stuff-k : goal.bounds-stuff-k
 bounds-stuff-k c =
-    let turn_at : (let l = c.loop-k in let a = c.args in Turn a.plan a.mask a.start a.tables.now a.ends.now a.frame.now a.source.now a.answers.now a.stuff.now a.positions.now l.source l.answers l.stuff l.positions l.state l.from l.k (l.from + c.slot_octets.result)) =
     let l = c.loop-k in
-    let s = c in
-    turn _ _ _ _ _ _ _ _ _ _ s.requires _ _ _ _ _ _ _ _ l.invariant (omega arith) (ap (λ (n : ℕ). l.from + n) c.slot_octets.ensures) in
-    (turn_at).stuff_within
+    let a = c.args in
+    let t = turn a.plan a.mask a.start a.tables.now a.ends.now a.frame.now a.source.now a.answers.now a.stuff.now a.positions.now c.requires l.source l.answers l.stuff l.positions l.state l.from l.k _ l.invariant (omega arith) (ap (λ (n : ℕ). l.from + n) c.slot_octets.ensures) in
+    t.stuff_within
 
 pub bounds-positions-k : goal.bounds-positions-k
 bounds-positions-k c =
-    let turn_at : (let l = c.loop-k in let a = c.args in Turn a.plan a.mask a.start a.tables.now a.ends.now a.frame.now a.source.now a.answers.now a.stuff.now a.positions.now l.source l.answers l.stuff l.positions l.state l.from l.k (l.from + c.slot_octets.result)) =
     let l = c.loop-k in
-    let s = c in
-    turn _ _ _ _ _ _ _ _ _ _ s.requires _ _ _ _ _ _ _ _ l.invariant (omega arith) (ap (λ (n : ℕ). l.from + n) c.slot_octets.ensures) in
-    omega (arith, (turn_at).all_positions)
-
-pub loop-k-smaller : goal.loop-k-smaller
-loop-k-smaller c = omega arith
+    let a = c.args in
+    let t = turn a.plan a.mask a.start a.tables.now a.ends.now a.frame.now a.source.now a.answers.now a.stuff.now a.positions.now c.requires l.source l.answers l.stuff l.positions l.state l.from l.k _ l.invariant (omega arith) (ap (λ (n : ℕ). l.from + n) c.slot_octets.ensures) in
+    omega (arith, t.all_positions)
 
 pub loop-k-preserved : goal.loop-k-preserved
 loop-k-preserved c =
-    let turn_at : (let l = c.loop-k in let a = c.args in Turn a.plan a.mask a.start a.tables.now a.ends.now a.frame.now a.source.now a.answers.now a.stuff.now a.positions.now l.source l.answers l.stuff l.positions l.state l.from l.k (l.from + c.slot_octets.result)) =
     let l = c.loop-k in
-    let s = c in
-    turn _ _ _ _ _ _ _ _ _ _ s.requires _ _ _ _ _ _ _ _ l.invariant (omega arith) (ap (λ (n : ℕ). l.from + n) c.slot_octets.ensures) in
-    let r = c in
-    let e = r.read_place-read.ensures in
-    (turn_at).more _ _ _ _ _ e.number_value.0 e.number_value.1 e.number_value.2 e.number_value.3 e.source_after
+    let a = c.args in
+    let t = turn a.plan a.mask a.start a.tables.now a.ends.now a.frame.now a.source.now a.answers.now a.stuff.now a.positions.now c.requires l.source l.answers l.stuff l.positions l.state l.from l.k _ l.invariant (omega arith) (ap (λ (n : ℕ). l.from + n) c.slot_octets.ensures) in
+    let e = c.read_place-read.ensures in
+    t.more _ _ _ _ _ e.number_value.0 e.number_value.1 e.number_value.2 e.number_value.3 e.source_after
 
 pub shape_of-source : goal.shape_of-source
 shape_of-source c = c.loop-k.invariant.sources.same
@@ -200,6 +184,12 @@ shape_of-positions c = c.loop-k.invariant.positioned.same
 pub returns : goal.returns
 returns c =
     let l = c.loop-k in
-    let s = c in
+    let q = c.requires in
     let e : l.k ≡ 120 = omega arith in
-    let f : l.from ≡ source_from s.args.plan 120 = l.invariant.from_is ∙ ap (source_from s.args.plan) e in record { source_after = filling_all _ _ l.from l.source l.invariant.sources (omega (arith, s.requires.framed.lent.source_long)); answers_after = filling_all _ _ l.k l.answers l.invariant.answered (omega (arith, s.requires.answers_long)); stuff_after = filling_all _ _ l.k l.stuff l.invariant.stuffed (omega (arith, s.requires.stuff_long)); positions_after = filling_all _ _ l.k l.positions l.invariant.positioned (omega (arith, s.requires.positions_long)) }
+    let f : l.from ≡ source_from c.args.plan 120 = l.invariant.from_is ∙ ap (source_from c.args.plan) e in
+    record {
+      source_after = filling_all _ _ l.from l.source l.invariant.sources (omega (arith, q.framed.lent.source_long));
+      answers_after = filling_all _ _ l.k l.answers l.invariant.answered (omega (arith, q.answers_long));
+      stuff_after = filling_all _ _ l.k l.stuff l.invariant.stuffed (omega (arith, q.stuff_long));
+      positions_after = filling_all _ _ l.k l.positions l.invariant.positioned (omega (arith, q.positions_long));
+    }

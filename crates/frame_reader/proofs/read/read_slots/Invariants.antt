@@ -1,7 +1,7 @@
 -- `frame_reader::read::read_slots`: the areas are filled with what the slots passed were read to.
 use mathlib.Core.Path.{◌≡◌}
 use mathlib.Core.List.{List}
-use Prim.Native.Nat.{ℕ, ◌-◌, ◌≤◌}
+use Prim.Native.Nat.{ℕ, ◌≤◌}
 use Rattle.lists.specs.Filling.{Filling}
 use Rattle.plan.specs.declared.Plan.{Plan}
 use Rattle.plan.specs.declared.FrameState.{FrameState}
@@ -21,6 +21,3 @@ pub record Passed (p : Plan) (mask start : ℕ) (ts frame found asked told named
 abbrev pub invariant-loop-k : goal.invariant-loop-k
 invariant-loop-k l =
     Passed l.plan l.mask l.start l.tables l.frame l.initial.source l.initial.answers l.initial.stuff l.initial.positions l.source l.answers l.stuff l.positions l.state l.from l.k
-
-abbrev pub decreases-loop-k : goal.decreases-loop-k
-decreases-loop-k l = 120 - l.k

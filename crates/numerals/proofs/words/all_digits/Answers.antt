@@ -1,35 +1,22 @@
--- `numerals::all_digits`: the octets passed are digits.
-use mathlib.Core.Path.{◌≡◌, sym, ap, ◌∙◌}
-use Prim.Native.Nat.{ℕ}
-use native.Mathlib.Omega.{arith}
-use borrow.Author.Rules.{rules}
-use borrow.Author.Tests.{lt-ltb, le-ltb}
-use lib.ListN.{length}
+-- `numerals::all_digits`: what `all` says of each octet is the test of the definition.
+use Rattle.std.proofs.Common.{◌≡◌, ℕ, ◌<◌, ◌≤◌, Bool, true, false, List, length, MatchBool, sym, arith, rules, tests, lt-ltb, le-ltb}
+use Rattle.std.specs.List.{HoldsAt, AllWithin}
+use Rattle.std.proofs.lemmas.Iterator.{cases_from_all, YieldsList-from_slice}
 use Rattle.lists.specs.Count.{every}
-use Rattle.lists.specs.CountLaws.{every_none, every_next, every_not}
+use Rattle.lists.specs.CountLaws.{every_all, every_not}
+use Rattle.numerals.specs.Numerals.{digit_of}
 use Rattle.numerals.specs.Words.{digit_at}
 use Rattle.numerals.proofs.words.all_digits.Goals as goal
 
-pub loop-i-init : goal.loop-i-init
-loop-i-init c = record { within = omega arith; right = every_none _ }
-
-pub returns-then-base-digit : goal.returns-then-base-digit
-returns-then-base-digit c =
-    let l = c.loop-i in
-    let a = c.args in
-    let d = c.digit.ensures in
-    sym (every_not (length a.text.now) (digit_at a.base a.text.now) l.i (search rules) (rw (← d) (le-ltb _ _ c.if-base-digit.true)))
-
-pub loop-i-preserved : goal.loop-i-preserved
-loop-i-preserved c =
-    let l = c.loop-i in
-    let a = c.args in
-    let d = c.digit.ensures in
-    record { within = search rules; right = every_next l.i (digit_at a.base a.text.now) l.invariant.right (rw (← d) (lt-ltb c.digit.result a.base (omega arith))) }
+every_digit : (r : Bool) (base : ℕ) (t : List ℕ)
+    → MatchBool r (AllWithin (λ x. digit_of x < base) t 0 (length t)) ((k : ℕ) × (k < length t) × HoldsAt (λ x. base ≤ digit_of x) t k)
+    → r ≡ every (length t) (digit_at base t)
+every_digit true base t h = sym (every_all (length t) (digit_at base t) (λ k l. lt-ltb _ base (h k 0 (omega arith) l)))
+every_digit false base t h = sym (every_not (length t) (digit_at base t) h.0 h.1 (le-ltb _ base (h.2 0)))
 
 pub returns : goal.returns
 returns c =
-    let l = c.loop-i in
-    let a = c.args in
-    let e : l.i ≡ length a.text.now = omega (arith, l.invariant.within) in
-    sym l.invariant.right ∙ ap (λ (n : ℕ). every n (digit_at a.base a.text.now)) e
+    let b = c.args.base in
+    let t = c.args.text.now in
+    every_digit _ b t
+    (cases_from_all _ _ _ (λ x. digit_of x < b) (λ x. b ≤ digit_of x) c.all.ensures.ran (YieldsList-from_slice t cc) (λ x q k. search (rules, tests)) (λ x q k. search (rules, tests)))

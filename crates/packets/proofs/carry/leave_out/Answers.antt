@@ -1,34 +1,17 @@
 -- `packets::leave_out`: the area is filled with the packets' other octets, one packet at a time.
-use mathlib.Core.Path.{refl, sym, ◌∙◌}
-use Prim.Native.Nat.{◌+◌, ◌-◌}
-use native.Mathlib.Omega.{arith}
-use borrow.Author.Rules.{rules}
+use Rattle.std.proofs.Common.{sym, ◌∙◌, ◌+◌, ◌*◌, arith}
 use Rattle.lists.specs.FillingLaws.{filling_none, filling_part, filling_all}
-use Rattle.packets.specs.PacketLaws.{length_packed}
-use Rattle.packets.proofs.Turns.{leave_turn}
+use Rattle.packets.specs.PacketLaws.{length_packed, packed_at}
 use Rattle.packets.proofs.carry.leave_out.Goals as goal
 
 pub loop-i-init : goal.loop-i-init
-loop-i-init c =
-    let s = c in
-    record {
-      passed = search rules;
-      source = refl;
-      place = refl;
-      filling = filling_none _ _ (length_packed s.args.count s.args.packets.now s.requires.packets ∙ sym s.requires.octets);
-    }
+loop-i-init c = filling_none _ _ (length_packed c.args.count c.args.packets.now c.requires.packets ∙ sym c.requires.octets)
 
 pub loop-i-preserved : goal.loop-i-preserved
 loop-i-preserved c =
-    let l = c.loop-i in
-    let s = c in
-    let d = leave_turn s.args.count l.i (search rules) l.from l.at _ s.args.packets.now s.requires.packets l.invariant.source l.invariant.place c.copy.ensures in
-    record {
-      passed = search rules;
-      source = omega (arith, l.invariant.source);
-      place = omega (arith, l.invariant.place);
-      filling = filling_part _ _ l.at l.octets l.invariant.filling (l.at + 187) _ (search rules) (search rules) d;
-    }
+    let i = c.loop-i.i in
+    let p = packed_at c.args.count c.args.packets.now c.requires.packets i (omega arith) in
+    filling_part _ _ (187 * i) _ c.loop-i.invariant (187 * (i + 1)) _ (omega arith) (omega (arith, c.requires.octets)) (c.copy_from_slice.ensures.after ∙ sym p)
 
 pub returns : goal.returns
-returns c = let l = c.loop-i in filling_all _ _ l.at l.octets l.invariant.filling (search rules)
+returns c = filling_all _ _ _ _ c.loop-i.invariant (omega (arith, c.requires.octets))

@@ -1,67 +1,67 @@
--- `setting_block::block_ok`: each way out rewrites with the tests on the way to it.
-use mathlib.Core.Path.{◌≡◌, sym, ap₂, ◌∙◌}
-use mathlib.Core.Bool.{true}
-use native.Mathlib.Omega.{arith}
-use borrow.Author.Tests.{eq-eqb, ne_eqb}
-use lib.Dec.{eqb}
+-- `setting_block::block_ok`: the tests of the definition, otherwise grouped.
+use Rattle.std.proofs.Common.{◌≡◌, refl, sym, ap, ap₂, ◌∙◌, ℕ, List, Bool, true, false, ◌&&◌, eqb, take, arith}
+use Rattle.std.proofs.lemmas.Bool.{false≢true}
 use Rattle.bits.specs.Same.{same}
+use Rattle.octet_numbers.specs.Numbers.{sum_of, all_zero}
 use Rattle.setting_block.specs.Layout.{layout, mark, edition}
-use Rattle.octet_numbers.specs.Numbers.{all_zero}
 use Rattle.setting_block.specs.Blocks.{field_in, number_in, unused_in, block_ok}
 use Rattle.setting_block.specs.BlockLaws.{field_number}
+use Rattle.setting_block.proofs.blocks.block_ok.Goals.{then-head_ok, else-head_ok}
 use Rattle.setting_block.proofs.blocks.block_ok.Goals as goal
 
-pub returns-then-all_zero : goal.returns-then-all_zero
-unfolding block_ok
-returns-then-all_zero c =
-    let marked : (let b = c.args.block.now in same (field_in (layout edition).mark b) mark ≡ true) = sym c.same_run.ensures ∙ c.if-same_run.true in
-    let read : (let b = c.args.block.now in c.number_of.result ≡ number_in (layout edition).edition b) =
-    let s = c in
-    c.number_of.ensures ∙ field_number s.args.block.now s.requires (layout edition).edition (omega arith) in
-    let known : (let b = c.args.block.now in eqb (number_in (layout edition).edition b) edition ≡ true) = eq-eqb _ edition (sym (read) ∙ c.if-number_of-eq-EDITION.true) in
-    let unused : (let b = c.args.block.now in all_zero (unused_in edition b) ≡ true) = sym c.unused_zero.ensures ∙ c.if-unused_zero.true in
-    let zeros : (let b = c.args.block.now in all_zero (field_in (layout edition).zeros b) ≡ true) = sym c.all_zero.ensures ∙ c.if-all_zero.true in
-    let d = c in
-    let e = d in
-    let f = e in
-    let g = f in
-    let s = g in
-    rw (marked, known, unused, zeros)
-    (ap₂ eqb (c.number_of-then-all_zero.ensures ∙ field_number s.args.block.now s.requires (layout edition).sum (omega arith)) c.sum_of-sum.ensures)
+all_hold : (m e u z s v : Bool) → v ≡ ((m && e) && (u && z)) → v ≡ true → s ≡ (m && (e && (u && (z && s))))
+all_hold true true true true s v d h = refl
+all_hold true true true false s v d h = absurd (false≢true (sym d ∙ h))
+all_hold true true false z s v d h = absurd (false≢true (sym d ∙ h))
+all_hold true false u z s v d h = absurd (false≢true (sym d ∙ h))
+all_hold false e u z s v d h = absurd (false≢true (sym d ∙ h))
 
-pub returns-else-all_zero : goal.returns-else-all_zero
-unfolding block_ok
-returns-else-all_zero c =
-    let marked : (let b = c.args.block.now in same (field_in (layout edition).mark b) mark ≡ true) = sym c.same_run.ensures ∙ c.if-same_run.true in
-    let read : (let b = c.args.block.now in c.number_of.result ≡ number_in (layout edition).edition b) =
-    let s = c in
-    c.number_of.ensures ∙ field_number s.args.block.now s.requires (layout edition).edition (omega arith) in
-    let known : (let b = c.args.block.now in eqb (number_in (layout edition).edition b) edition ≡ true) = eq-eqb _ edition (sym (read) ∙ c.if-number_of-eq-EDITION.true) in
-    let unused : (let b = c.args.block.now in all_zero (unused_in edition b) ≡ true) = sym c.unused_zero.ensures ∙ c.if-unused_zero.true in
-    let e = c in
-    let f = e in
-    rw (marked, known, unused, sym c.all_zero.ensures ∙ c.if-all_zero.false)
+one_fails : (m e u z s v : Bool) → v ≡ ((m && e) && (u && z)) → v ≡ false → v ≡ (m && (e && (u && (z && s))))
+one_fails true true true true s v d h = absurd (false≢true (sym h ∙ d))
+one_fails true true true false s v d h = d
+one_fails true true false z s v d h = d
+one_fails true false u z s v d h = d
+one_fails false e u z s v d h = d
 
-pub returns-else-unused_zero : goal.returns-else-unused_zero
-unfolding block_ok
-returns-else-unused_zero c =
-    let marked : (let b = c.args.block.now in same (field_in (layout edition).mark b) mark ≡ true) = sym c.same_run.ensures ∙ c.if-same_run.true in
-    let read : (let b = c.args.block.now in c.number_of.result ≡ number_in (layout edition).edition b) =
-    let s = c in
-    c.number_of.ensures ∙ field_number s.args.block.now s.requires (layout edition).edition (omega arith) in
-    let known : (let b = c.args.block.now in eqb (number_in (layout edition).edition b) edition ≡ true) = eq-eqb _ edition (sym (read) ∙ c.if-number_of-eq-EDITION.true) in
-    let f = c in
-    rw (marked, known, sym c.unused_zero.ensures ∙ c.if-unused_zero.false)
+-- whether head, fillers and sum are right
+abbrev Head : List ℕ → Bool
+Head b = same (field_in (layout edition).mark b) mark && eqb (number_in (layout edition).edition b) edition
 
-pub returns-else-number_of-eq-EDITION : goal.returns-else-number_of-eq-EDITION
-unfolding block_ok
-returns-else-number_of-eq-EDITION c =
-    let marked : (let b = c.args.block.now in same (field_in (layout edition).mark b) mark ≡ true) = sym c.same_run.ensures ∙ c.if-same_run.true in
-    let read : (let b = c.args.block.now in c.number_of.result ≡ number_in (layout edition).edition b) =
-    let s = c in
-    c.number_of.ensures ∙ field_number s.args.block.now s.requires (layout edition).edition (omega arith) in
-    rw (marked, ne_eqb _ edition (λ z. c.if-number_of-eq-EDITION.false (read ∙ z)))
+abbrev Fillers : List ℕ → Bool
+Fillers b = all_zero (unused_in edition b) && all_zero (field_in (layout edition).zeros b)
 
-pub returns-else-same_run : goal.returns-else-same_run
+abbrev Sum : List ℕ → Bool
+Sum b = eqb (number_in (layout edition).sum b) (sum_of (take (layout edition).sum.at b))
+
+decides : (b : List ℕ) (v : Bool) → v ≡ (Head b && Fillers b) → v ≡ true → Sum b ≡ block_ok edition b
 unfolding block_ok
-returns-else-same_run c = rw (sym c.same_run.ensures ∙ c.if-same_run.false)
+decides b v =
+    all_hold (same (field_in (layout edition).mark b) mark) (eqb (number_in (layout edition).edition b) edition)
+    (all_zero (unused_in edition b)) (all_zero (field_in (layout edition).zeros b)) (Sum b) v
+
+fails : (b : List ℕ) (v : Bool) → v ≡ (Head b && Fillers b) → v ≡ false → v ≡ block_ok edition b
+unfolding block_ok
+fails b v =
+    one_fails (same (field_in (layout edition).mark b) mark) (eqb (number_in (layout edition).edition b) edition)
+    (all_zero (unused_in edition b)) (all_zero (field_in (layout edition).zeros b)) (Sum b) v
+
+pub returns-then-fillers_zero : goal.returns-then-fillers_zero
+returns-then-fillers_zero c =
+    let b = c.args.block.now in
+    let d : c.if-head_ok.value ≡ (c.head_ok.result && Fillers b) =
+    elim c.if-head_ok.branch [
+      | then-head_ok w ↦ rw w.if-head_ok.true (w.value-is ∙ w.fillers_zero.ensures)
+      | else-head_ok w ↦ rw w.if-head_ok.false (w.value-is ∙ w.if-head_ok.false)
+    ] in
+    let f = field_number b c.requires (layout edition).sum (omega arith) in
+    ap₂ eqb (c.number_of.ensures ∙ f) c.sum_of.ensures ∙ decides b _ (d ∙ ap (λ (x : Bool). x && Fillers b) c.head_ok.ensures) c.if-fillers_zero.true
+
+pub returns-else-fillers_zero : goal.returns-else-fillers_zero
+returns-else-fillers_zero c =
+    let b = c.args.block.now in
+    let d : c.if-head_ok.value ≡ (c.head_ok.result && Fillers b) =
+    elim c.if-head_ok.branch [
+      | then-head_ok w ↦ rw w.if-head_ok.true (w.value-is ∙ w.fillers_zero.ensures)
+      | else-head_ok w ↦ rw w.if-head_ok.false (w.value-is ∙ w.if-head_ok.false)
+    ] in
+    fails b _ (d ∙ ap (λ (x : Bool). x && Fillers b) c.head_ok.ensures) c.if-fillers_zero.false

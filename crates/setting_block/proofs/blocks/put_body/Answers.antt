@@ -20,8 +20,8 @@ returns c =
     let x = c.put_head in
     let y = c.put_registers in
     let z = c.fill in
-    let k : z.new.to ≡ replicate 464 0
-    = z.ensures ∙ ap (λ (n : ℕ). replicate n 0) (length_part 46 510 (put_mid 30 16 (put_mid 0 30 a.octets.now x.new.octets) y.new.octets) (search rules)) in
-    three_parts a.octets.now x.new.octets y.new.octets z.new.to 30 46 510 s.requires.long (omega arith) (omega arith)
+    let k : z.new.self ≡ replicate 464 0
+    = z.ensures.after (λ y e. search rules) ∙ ap (λ (n : ℕ). replicate n 0) (length_part 46 510 (put_mid 30 16 (put_mid 0 30 a.octets.now x.new.octets) y.new.octets) (search rules)) in
+    three_parts a.octets.now x.new.octets y.new.octets z.new.self 30 46 510 s.requires.long (omega arith) (omega arith)
     (ap length x.ensures ∙ length_head edition a.plan) (ap length y.ensures ∙ length_registers edition a.registers) (ap length k ∙ length-replicate {A = ℕ} 464 0)
     ∙ ap₂ (λ (p q : List ℕ). p ++ q) x.ensures (ap₂ (λ (p q : List ℕ). p ++ q) y.ensures k)

@@ -17,6 +17,6 @@ returns c =
     let a = s.args in
     let x = c.put_number in
     let y = c.put_groups in
-    let i : x.new.octets ≡ big_endian 1 a.plan.count = x.ensures ∙ ap (λ (n : ℕ). big_endian n a.plan.count) (length_part 0 1 a.octets.now (search rules)) in
+    let i : x.new.octets ≡ big_endian 1 a.plan.count = x.ensures ∙ ap₂ (λ (n v : ℕ). big_endian n v) (length_part 0 1 a.octets.now (search rules)) c.from.ensures in
     two_parts a.octets.now x.new.octets y.new.octets 1 25 s.requires.long (omega arith) (ap length i ∙ length_big_endian 1 _) (ap length y.ensures ∙ length_groups_of a.plan)
     ∙ ap₂ (λ (p q : List ℕ). p ++ q) i y.ensures

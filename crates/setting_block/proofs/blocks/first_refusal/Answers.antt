@@ -1,9 +1,0 @@
--- `setting_block::first_refusal`: the first number decides.
-use borrow.Author.Tests.{eq-eqb, ne_eqb}
-use Rattle.setting_block.proofs.blocks.first_refusal.Goals as goal
-
-pub returns-then-a-ne0 : goal.returns-then-a-ne0
-returns-then-a-ne0 c = rw (ne_eqb _ 0 c.if-a-ne0.true)
-
-pub returns : goal.returns
-returns c = rw (eq-eqb _ 0 c.if-a-ne0.false)
