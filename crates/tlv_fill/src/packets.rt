@@ -9,12 +9,11 @@ pub fn packets_ok(packets: &[u8]) -> bool
     // h goes on by each packet's own size, which no iterator gives.
     let mut h: usize = 0;
     while h < packets.len() {
-        let rest = packets.len() - h;
-        if rest < 4 || !tlv::head_ok(packets, h) {
+        if packets.len() - h < 4 || !tlv::head_ok(packets, h) {
             return false;
         }
         let size = tlv::size_at(packets, h);
-        if rest < size || !tlv::body_ok(packets, h, size) {
+        if packets.len() - h < size || !tlv::body_ok(packets, h, size) {
             return false;
         }
         h += size;

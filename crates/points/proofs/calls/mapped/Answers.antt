@@ -27,11 +27,6 @@ returns-then-entries-at c =
     let z : lent_number a.modulation a.register (lent_ok a.modulation a.symbol (length a.entries.in_phase.now) (length a.entries.quadrature.now)) ≡ 0 = ap (lent_number a.modulation a.register) (sym (and_true _)) ∙ sym c.in_ok-check_lent.ensures in
     refused _ _ _ (rw (z, le-ltb a.label (2 ^ a.modulation) (omega (arith, l.in_phase))))
 
-pub used_ok-requires : goal.used_ok-requires
-used_ok-requires c =
-    let l = lent _ _ _ _ _ _ (sym c.in_ok-check_lent.ensures) in
-    listed l _ (omega (arith, l.in_phase))
-
 pub returns-then-not-used_ok : goal.returns-then-not-used_ok
 unfolding mapped_number
 returns-then-not-used_ok c =
@@ -40,11 +35,6 @@ returns-then-not-used_ok c =
     let z : lent_number a.modulation a.register (lent_ok a.modulation a.symbol (length a.entries.in_phase.now) (length a.entries.quadrature.now)) ≡ 0 = ap (lent_number a.modulation a.register) (sym (and_true _)) ∙ sym c.in_ok-check_lent.ensures in
     refused _ _ _ (rw (z, lt-ltb a.label (2 ^ a.modulation) (omega (arith, l.in_phase)), sym c.used_ok.ensures ∙ c.if-not-used_ok.true))
 
-pub point_of-requires : goal.point_of-requires
-point_of-requires c =
-    let l = lent _ _ _ _ _ _ (sym c.in_ok-check_lent.ensures) in
-    listed l _ (omega (arith, l.in_phase))
-
 pub returns : goal.returns
 unfolding mapped_number
 returns c =
@@ -52,3 +42,13 @@ returns c =
     let l = lent _ _ _ _ _ _ (sym c.in_ok-check_lent.ensures) in
     let z : lent_number a.modulation a.register (lent_ok a.modulation a.symbol (length a.entries.in_phase.now) (length a.entries.quadrature.now)) ≡ 0 = ap (lent_number a.modulation a.register) (sym (and_true _)) ∙ sym c.in_ok-check_lent.ensures in
     answered _ _ _ (rw (z, lt-ltb a.label (2 ^ a.modulation) (omega (arith, l.in_phase)), sym c.used_ok.ensures ∙ c.if-not-used_ok.false)) c.point_of.ensures
+
+pub used_ok-requires : goal.used_ok-requires
+used_ok-requires c =
+    let l = lent _ _ _ _ _ _ (sym c.in_ok-check_lent.ensures) in
+    listed l _ (omega (arith, l.in_phase))
+
+pub point_of-requires : goal.point_of-requires
+point_of-requires c =
+    let l = lent _ _ _ _ _ _ (sym c.in_ok-check_lent.ensures) in
+    listed l _ (omega (arith, l.in_phase))
