@@ -16,11 +16,11 @@ pub fn position_of(refused: Refusal) -> u16
     }
 }
 
-impl WordAnswer {
-    // Number and position of what a call answers.
-    pub fn new(answer: Result<(), Refusal>) -> WordAnswer
-        ensures { result ≡ as_word_answer answer }
-    {
+// Number and position of what a call answers.
+impl From<Result<(), Refusal>> for WordAnswer {
+    ghost from_gives = { λ answer told. told ≡ as_word_answer answer };
+
+    fn from(answer: Result<(), Refusal>) -> WordAnswer {
         match answer {
             Ok(()) => WordAnswer {
                 number: 0,

@@ -26,9 +26,9 @@ fn read_place(
     let place = plan::next_place(state);
     if place.carries {
         let table = frame::table_of(tables, ends, place.group);
-        return SlotRead::new(slot_reader::read_slot(state, table, received, source));
+        return SlotRead::from(slot_reader::read_slot(state, table, received, source));
     }
-    SlotRead::new(SlotReading {
+    SlotRead::from(SlotReading {
         state: plan::pass(state).unwrap(),
         stuff: Err(Refusal::Dummy),
     })

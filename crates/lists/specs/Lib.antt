@@ -10,3 +10,4 @@ pub mod Pieces
 pub mod Runs
 pub mod RunLaws
 pub mod ThreeRuns
+pub mod TestLaws

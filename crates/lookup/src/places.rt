@@ -30,11 +30,11 @@ pub fn place(plan: Plan, slot: u32) -> Result<Place, Refusal>
     Ok(plan::place_of(plan, slot as usize))
 }
 
-impl Placed {
-    // Number and place of what is answered, a place of zeros by a refusal.
-    pub fn new(answer: Result<Place, Refusal>) -> Placed
-        ensures { result ≡ as_placed answer }
-    {
+// Number and place of what is answered, a place of zeros by a refusal.
+impl From<Result<Place, Refusal>> for Placed {
+    ghost from_gives = { λ answer told. told ≡ as_placed answer };
+
+    fn from(answer: Result<Place, Refusal>) -> Placed {
         match answer {
             Ok(place) => Placed { number: 0, place },
             Err(refused) => Placed {

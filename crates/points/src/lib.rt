@@ -30,11 +30,11 @@ pub struct PointValues {
     pub q: f32,
 }
 
-impl PointValues {
-    // Number and coordinates of what a call answers.
-    pub fn new(answer: Result<Point, Refusal>) -> PointValues
-        ensures { result ≡ as_values answer }
-    {
+// Number and coordinates of what a call answers.
+impl From<Result<Point, Refusal>> for PointValues {
+    ghost from_gives = { λ answer told. told ≡ as_values answer };
+
+    fn from(answer: Result<Point, Refusal>) -> PointValues {
         match answer {
             Ok(point) => PointValues {
                 number: 0,
@@ -59,11 +59,11 @@ pub struct StepAnswer {
     pub register: u32,
 }
 
-impl StepAnswer {
-    // Number and register of what the call answers.
-    pub fn new(answer: Result<u32, Refusal>) -> StepAnswer
-        ensures { result ≡ as_step answer }
-    {
+// Number and register of what the call answers.
+impl From<Result<u32, Refusal>> for StepAnswer {
+    ghost from_gives = { λ answer told. told ≡ as_step answer };
+
+    fn from(answer: Result<u32, Refusal>) -> StepAnswer {
         match answer {
             Ok(register) => StepAnswer {
                 number: 0,

@@ -22,7 +22,5 @@ pub extern "C" fn s3_replace_settings(
 ) -> u8
     ensures { Answered (replace_number (length card.old) number plan registers) (replaced card.old number plan registers) card.old result card.new }
 {
-    refusal::number(settings::replace_settings(
-        card, number, plan, registers,
-    ))
+    refusal::number(settings::replace_settings(card, number, plan, registers))
 }

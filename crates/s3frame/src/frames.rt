@@ -25,9 +25,7 @@ pub extern "C" fn s3_code_frame(
 ) -> u8
     ensures { Answered (frame_number plan mask start tables.now (length source.now) (length frame.old)) (frame_of plan tables.now mask start source.now frame.old) frame.old result frame.new }
 {
-    refusal::number(frame_coder::code_frame(
-        plan, mask, start, tables, source, frame,
-    ))
+    refusal::number(frame_coder::code_frame(plan, mask, start, tables, source, frame))
 }
 
 #[unsafe(no_mangle)]
@@ -49,5 +47,6 @@ pub extern "C" fn s3_read_frame(
     ensures positions_after { positions.new ≡ pick (eqb result 0) (positions_of plan tables.now mask start frame.now) positions.old }
 {
     refusal::number(frame_reader::read_frame(
-        plan, mask, start, tables, frame, source, answers, stuff, positions,))
+        plan, mask, start, tables, frame, source, answers, stuff, positions,
+    ))
 }

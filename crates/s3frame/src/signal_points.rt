@@ -17,7 +17,7 @@ pub extern "C" fn s3_point(
 ) -> PointValues
     ensures { result ≡ point_values (point_number modulation label symbol in_phase.now quadrature.now) (point_of modulation symbol in_phase.now quadrature.now label) }
 {
-    PointValues::new(points::point_of_label(modulation, label, symbol, in_phase, quadrature))
+    PointValues::from(points::point_of_label(modulation, label, symbol, in_phase, quadrature))
 }
 
 #[tactic(auto, using(points::proofs::AnswerLaws::values_answered))]
@@ -33,7 +33,7 @@ pub extern "C" fn s3_arranged_point(
 ) -> PointValues
     ensures { result ≡ point_values (arranged_number modulation label symbol in_phase.now quadrature.now mask register) (arranged_of register (point_of modulation symbol in_phase.now quadrature.now label)) }
 {
-    PointValues::new(points::arranged_point(
+    PointValues::from(points::arranged_point(
         modulation, label, symbol, in_phase, quadrature, mask, register,
     ))
 }
@@ -42,7 +42,7 @@ pub extern "C" fn s3_arranged_point(
 pub extern "C" fn s3_arranged_step(mask: u32, register: u32) -> StepAnswer
     ensures { result ≡ step_answer mask register }
 {
-    StepAnswer::new(points::arranged_step(mask, register))
+    StepAnswer::from(points::arranged_step(mask, register))
 }
 
 #[unsafe(no_mangle)]

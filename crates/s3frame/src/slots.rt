@@ -29,12 +29,12 @@ pub extern "C" fn s3_read_slot(
     ensures value { result ≡ read_answer state table.now coded.now source.old }
     ensures source_after { source.new ≡ read_area state table.now coded.now source.old }
 {
-    SlotRead::new(slot_reader::read_slot(state, table, coded, source))
+    SlotRead::from(slot_reader::read_slot(state, table, coded, source))
 }
 
 #[unsafe(no_mangle)]
 pub extern "C" fn s3_check_parity(rate: u32, table: &[u16], coded: &[u8]) -> WordAnswer
     ensures { result ≡ check_answer rate table.now coded.now }
 {
-    WordAnswer::new(slot_check::check_parity(rate, table, coded))
+    WordAnswer::from(slot_check::check_parity(rate, table, coded))
 }

@@ -24,5 +24,5 @@ pub extern "C" fn s3_pass(state: FrameState) -> Answer
 pub extern "C" fn s3_place(plan: Plan, slot: u32) -> Placed
     ensures { result ≡ placed plan slot }
 {
-    Placed::new(lookup::place(plan, slot))
+    Placed::from(lookup::place(plan, slot))
 }

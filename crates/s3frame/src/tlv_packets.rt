@@ -17,7 +17,7 @@ pub extern "C" fn s3_tlv_fill(
     ensures slots_after { slots.new ≡ fill_slots rate packets.now taken owed slots.old begins.old }
     ensures begins_after { begins.new ≡ fill_begins rate packets.now taken owed slots.old begins.old }
 {
-    FillAnswer::new(tlv_fill::fill(rate, packets, taken, owed, slots, begins))
+    FillAnswer::from(tlv_fill::fill(rate, packets, taken, owed, slots, begins))
 }
 
 #[unsafe(no_mangle)]
@@ -32,5 +32,5 @@ pub extern "C" fn s3_tlv_read(
     ensures value { result ≡ read_answer rate slots.now begins.now lost.now first packets.old }
     ensures packets_after { packets.new ≡ read_packets rate slots.now begins.now lost.now first packets.old }
 {
-    ReadAnswer::new(tlv_read::read(rate, slots, begins, lost, first, packets))
+    ReadAnswer::from(tlv_read::read(rate, slots, begins, lost, first, packets))
 }

@@ -30,5 +30,5 @@ pub extern "C" fn s3_read_tmcc(
     ensures value { result ≡ read_answer mask start table.now block.now source.old }
     ensures answered { Answered (read_number mask start table.now block.now source.old) (source_of mask start block.now) source.old result.number source.new }
 {
-    WordAnswer::new(tmcc_reader::read_block(mask, start, table, block, source))
+    WordAnswer::from(tmcc_reader::read_block(mask, start, table, block, source))
 }

@@ -4,11 +4,11 @@ ghost use Rattle.slot.specs.Reading.{as_slot_read};
 
 use crate::{NO_STUFF, SlotRead, SlotReading};
 
-impl SlotRead {
-    // Number, state, stuff bits and failing position of a reading.
-    pub fn new(reading: SlotReading) -> SlotRead
-        ensures { result ≡ as_slot_read reading }
-    {
+// Number, state, stuff bits and failing position of a reading.
+impl From<SlotReading> for SlotRead {
+    ghost from_gives = { λ reading told. told ≡ as_slot_read reading };
+
+    fn from(reading: SlotReading) -> SlotRead {
         let state = reading.state;
         match reading.stuff {
             Ok(stuff) => SlotRead {

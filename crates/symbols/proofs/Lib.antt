@@ -1,4 +1,3 @@
 pub mod Ready
 pub mod Strides
-pub mod Tests
 pub mod Turns

@@ -18,8 +18,8 @@ fn read_line(
     found: &mut [u8],
 ) -> io::Result<()> {
     test_samples::fill(0, found);
-    let answer = SlotRead::new(slot_reader::read_slot(state, table, coded, found));
-    let check = WordAnswer::new(slot_check::check_parity(u32::from(rate), table, coded));
+    let answer = SlotRead::from(slot_reader::read_slot(state, table, coded, found));
+    let check = WordAnswer::from(slot_check::check_parity(u32::from(rate), table, coded));
     lines::read(rt, rate, state.slot, damage, answer, check, found)
 }
 

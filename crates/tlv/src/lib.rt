@@ -33,11 +33,11 @@ pub struct FillAnswer {
     pub owed: usize,
 }
 
-impl FillAnswer {
-    // Number and counts of what filling answers.
-    pub fn new(answer: Result<Filled, Refusal>) -> FillAnswer
-        ensures { result ≡ as_fill answer }
-    {
+// Number and counts of what filling answers.
+impl From<Result<Filled, Refusal>> for FillAnswer {
+    ghost from_gives = { λ answer told. told ≡ as_fill answer };
+
+    fn from(answer: Result<Filled, Refusal>) -> FillAnswer {
         match answer {
             Ok(filled) => FillAnswer {
                 number: 0,
@@ -69,11 +69,11 @@ pub struct ReadAnswer {
     pub unfinished: usize,
 }
 
-impl ReadAnswer {
-    // Number, count and place of what reading answers.
-    pub fn new(answer: Result<Unpacked, Refusal>) -> ReadAnswer
-        ensures { result ≡ as_read answer }
-    {
+// Number, count and place of what reading answers.
+impl From<Result<Unpacked, Refusal>> for ReadAnswer {
+    ghost from_gives = { λ answer told. told ≡ as_read answer };
+
+    fn from(answer: Result<Unpacked, Refusal>) -> ReadAnswer {
         match answer {
             Ok(unpacked) => ReadAnswer {
                 number: 0,

@@ -31,7 +31,7 @@ returns-then-place c =
     let k : carries (plan_in s) s.slot ≡ true = sym (ap (λ r. r.carries) c.next_place-place.ensures) ∙ c.if-place.true in
     let i = c.table_of-table.ensures ∙ b.is in
     let z = slot_taken s a.tables.now a.ends.now a.source.now c.requires.placed a.received.now c.requires.received_long k in
-    let e = c.new.ensures ∙ c.read_slot.ensures.value ∙ ap (λ (u : List ℕ). read_answer s u a.received.now a.source.now) i in
+    let e = c.from.ensures ∙ c.read_slot.ensures.value ∙ ap (λ (u : List ℕ). read_answer s u a.received.now a.source.now) i in
     let w = read_answer_law s a.tables.now a.source.now a.received.now z k in
     record {
       number_value = (ap (λ q. q.number) e ∙ w.0, ap (λ q. q.state) e ∙ w.1, ap (λ q. q.stuff) e ∙ w.2, ap (λ q. q.position) e ∙ w.3);
@@ -51,7 +51,7 @@ returns c =
     let a = c.args in
     let s = a.state in
     let k : carries (plan_in s) s.slot ≡ false = sym (ap (λ r. r.carries) c.next_place-place.ensures) ∙ c.if-place.false in
-    let d = c.new-2.ensures in
+    let d = c.from-2.ensures in
     let p = rw c.unwrap.ensures at c.pass.ensures in
     record {
       number_value = (

@@ -7,7 +7,7 @@ use borrow.Author.Tests.{tests}
 use Rattle.std.proofs.lemmas.Iterator.{YieldsList-from_slice}
 use Rattle.symbols.specs.Labels.{label_number}
 use Rattle.symbols.specs.LabelLaws.{one_shifted}
-use Rattle.symbols.proofs.Tests.{every_from_all}
+use Rattle.lists.specs.TestLaws.{every_from_all}
 use Rattle.symbols.proofs.numbers.check_label.Goals as goal
 
 pub returns-then-all : goal.returns-then-all

@@ -8,7 +8,8 @@ use borrow.Author.Tests.{tests, ne_eqb}
 use Rattle.std.proofs.lemmas.Iterator.{YieldsList-from_slice}
 use Rattle.tlv.specs.HeadLaws.{body_null}
 use Rattle.tlv.specs.Packets.{body_ok}
-use Rattle.tlv.proofs.Tests.{every_from_all, every_part}
+use Rattle.lists.specs.TestLaws.{every_from_all}
+use Rattle.tlv.proofs.Tests.{every_part}
 use Rattle.tlv.proofs.packets.body_ok.Goals as goal
 
 pub returns-then-lent-p : goal.returns-then-lent-p

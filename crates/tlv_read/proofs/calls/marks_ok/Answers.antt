@@ -4,7 +4,7 @@ use borrow.Author.Rules.{rules}
 use borrow.Author.Tests.{tests}
 use Rattle.std.proofs.lemmas.Iterator.{YieldsList-from_slice}
 use Rattle.tlv.specs.Calls.{mark_ok, all_hold}
-use Rattle.tlv.proofs.Tests.{every_from_all}
+use Rattle.lists.specs.TestLaws.{every_from_all}
 use Rattle.tlv_read.proofs.calls.marks_ok.Goals as goal
 
 pub returns : goal.returns
