@@ -10,10 +10,9 @@ pub fn put_input(shape: Shape, run: &[u8], input: &mut [u8])
     requires { Input shape run.now input.old }
     ensures { input.new ≡ parity_input shape run.now }
 {
-    let from = shape.before;
-    let to = from + run.len();
-    let end = input.len();
-    bits::fill(&mut input[0..from], 0);
-    bits::copy(run, &mut input[from..to]);
-    bits::fill(&mut input[to..end], 0);
+    let (before, rest) = input.split_at_mut(shape.before);
+    let (sent, behind) = rest.split_at_mut(run.len());
+    before.fill(0);
+    sent.copy_from_slice(run);
+    behind.fill(0);
 }

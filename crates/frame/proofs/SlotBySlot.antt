@@ -11,7 +11,7 @@ use Rattle.plan.specs.Records.{plan_in}
 use Rattle.plan.specs.declared.Plan.{Plan}
 use Rattle.plan.specs.declared.FrameState.{FrameState}
 use Rattle.plan.specs.Places.{carries}
-use Rattle.plan.specs.States.{opened, pass_number, passed}
+use Rattle.plan.specs.States.{pass_number, passed}
 use Rattle.plan.specs.Needs.{Ready}
 use Rattle.plan.proofs.StateLaws.{pass_yes}
 use Rattle.slot.specs.Calls.{rows_at, slot_number, code_answer, code_area, read_number, read_answer, read_area}

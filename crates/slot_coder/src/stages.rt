@@ -10,12 +10,11 @@ fn put_plain(rows: usize, source: &[u8], bits: &mut [u8])
     requires { Plain rows source.now bits.old }
     ensures { bits.new ≡ plain (bits_of source.now) stuff_bits }
 {
-    let message = slot::message_bits(rows);
-    let stuff = message + 192;
-    let end = bits.len();
-    bits::expand(source, &mut bits[0..message]);
-    bch::of_octets(source, &mut bits[message..stuff]);
-    bits::fill(&mut bits[stuff..end], 1);
+    let (message, rest) = bits.split_at_mut(slot::message_bits(rows));
+    let (check, stuff) = rest.split_at_mut(192);
+    bits::expand(source, message);
+    bch::of_octets(source, check);
+    stuff.fill(1);
 }
 
 // The slot of header and data octets; the register after it. The areas hold a slot's bits and its parity input on the

@@ -11,16 +11,14 @@ ghost use Rattle.tmcc_coder.specs.Needs.{Plain, Coding};
 use refusal::Refusal;
 use tmcc::{INPUT_BITS, MESSAGE_BITS, RUN_BITS, SOURCE_BITS, SOURCE_OCTETS};
 
-// TMCC bits and BCH bits. The BCH bits are made in an area of their own, since nothing can be written where the TMCC bits
-// are read, and then take the place of the last two bits of the octets.
+// TMCC bits and BCH bits, which take the place of the last two bits of the octets.
 fn put_plain(source: &[u8], run: &mut [u8])
     requires { Plain source.now run.old }
     ensures { run.new ≡ plain (message_of source.now) [] }
 {
-    let mut bch = [0u8; 192];
     bits::expand(source, &mut run[0..SOURCE_BITS]);
-    bch::of_bits(&run[0..MESSAGE_BITS], &mut bch);
-    bits::copy(&bch, &mut run[MESSAGE_BITS..RUN_BITS]);
+    let (message, check) = run.split_at_mut(MESSAGE_BITS);
+    bch::of_bits(message, check);
 }
 
 // The block of the octets. The areas hold a block's bits and its parity input on the way.

@@ -16,7 +16,7 @@ fn put_source(run: &mut [u8], source: &mut [u8])
     requires { Taken run.old source.old }
     ensures { source.new ≡ tailed (message_in block_shape run.old) }
 {
-    bits::fill(&mut run[MESSAGE_BITS..SOURCE_BITS], 0);
+    run[MESSAGE_BITS..SOURCE_BITS].fill(0);
     bits::collect(&run[0..SOURCE_BITS], source);
 }
 

@@ -14,9 +14,9 @@ fn put_parity(shape: Shape, table: &[u16], bits: &mut [u8], input: &mut [u8])
     requires { Room shape table.now bits.old input.old }
     ensures { bits.new ≡ with_parity shape table.now (take (run_bits shape) bits.old) }
 {
-    let run = codeword::run_bits(shape);
-    codeword::put_input(shape, &bits[0..run], input);
-    ldpc::parity(shape.rows, table, input, &mut bits[run..]);
+    let (run, parity) = bits.split_at_mut(codeword::run_bits(shape));
+    codeword::put_input(shape, run, input);
+    ldpc::parity(shape.rows, table, input, parity);
 }
 
 // The octets of the word; the register after it. The areas hold the word's bits and its parity input.

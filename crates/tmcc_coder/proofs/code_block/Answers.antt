@@ -1,5 +1,5 @@
 -- `tmcc_coder::code_block`: the tests decide between the octets' block and the area as found.
-use Rattle.std.proofs.Common.{◌≡◌, sym, ℕ}
+use Rattle.std.proofs.Common.{sym, ℕ}
 use lib.ListN.{length-replicate}
 use Rattle.refusal.specs.AnswerLaws.{accepted}
 use Rattle.dispersal.specs.RegisterLaws.{register_is}

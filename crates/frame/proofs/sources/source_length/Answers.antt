@@ -1,6 +1,6 @@
 -- `frame::source_length`: the octets of the slots passed, none of which has more than a slot has.
 use mathlib.Core.Path.{◌≡◌, sym, ap, ◌∙◌}
-use Prim.Native.Nat.{◌+◌, ◌-◌, ◌≤◌}
+use Prim.Native.Nat.{◌+◌, ◌≤◌}
 use native.Mathlib.Omega.{arith}
 use Rattle.plan.specs.Sizes.{slot_octets}
 use Rattle.frame.specs.Frames.{source_from}

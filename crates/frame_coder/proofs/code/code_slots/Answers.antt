@@ -21,7 +21,6 @@ use Rattle.frame.proofs.PlacedLaws.{placed_at}
 use Rattle.frame.specs.Needs.{Framed}
 use Rattle.frame_coder.specs.Needs.{Coding}
 use Rattle.frame_coder.proofs.code.code_slots.Invariants.{Inv}
-use Rattle.frame_coder.proofs.code.code_slots.Goals.{After-slot_octets}
 use Rattle.frame_coder.proofs.code.code_slots.Goals as goal
 
 module _ {p : Plan} {mask start : ℕ} {ts ends source found : List ℕ} (q : Framed p mask start ts ends source found) where
@@ -72,18 +71,6 @@ module _ {p : Plan} {mask start : ℕ} {ts ends source found : List ℕ} (q : Fr
           filling = filling_part coded_area found (slot_octets * k) area i.filling (slot_octets * (k + 1)) ys (omega arith) (omega (arith, q.lent.frame_long)) d;
         }
 
--- the two parts that are lent lie within their areas
-lies : (c : After-slot_octets)
-    → let l = c.loop-k in
-    let a = c.args in
-    (l.from + c.slot_octets.result ≤ length a.source.now) × (slot_octets * (l.k + 1) ≤ length l.frame)
-lies c =
-    let l = c.loop-k in
-    let s = c in (
-      within s.requires l.invariant (omega (arith, c.loop-k-test.true)) c.slot_octets.ensures,
-      omega (arith, c.loop-k-test.true, l.invariant.filling.same, s.requires.lent.frame_long),
-    )
-
 pub loop-k-init : goal.loop-k-init
 loop-k-init c = none c.requires (rw c.unwrap-state.ensures at c.open.ensures)
 
@@ -98,47 +85,26 @@ slot_octets-requires c =
     record { plan = (open_sound a.plan a.mask a.start s.requires.lent.opened).plan; low = omega arith; high = omega arith }
 
 pub overflow_add-to : goal.overflow_add-to
-overflow_add-to c = let h = lies c in search rules
-
-pub slice_bounds-code_place-count : goal.slice_bounds-code_place-count
-slice_bounds-code_place-count c = omega arith
-
-pub slice_bounds-code_place-start : goal.slice_bounds-code_place-start
-slice_bounds-code_place-start c = omega arith
+overflow_add-to c =
+    let l = c.loop-k in
+    let k : l.k < 120 = omega arith in
+    let h = within c.requires l.invariant k c.slot_octets.ensures in
+    search rules
 
 pub slice_bounds-code_place-end : goal.slice_bounds-code_place-end
-slice_bounds-code_place-end c = omega (arith, lies c)
-
-pub slice_bounds-code_place-count-in-loop-k : goal.slice_bounds-code_place-count-in-loop-k
-slice_bounds-code_place-count-in-loop-k c = omega arith
-
-pub slice_bounds-code_place-start-in-loop-k : goal.slice_bounds-code_place-start-in-loop-k
-slice_bounds-code_place-start-in-loop-k c = omega arith
+slice_bounds-code_place-end c =
+    within c.requires c.loop-k.invariant (omega arith) c.slot_octets.ensures
 
 pub slice_bounds-code_place-end-in-loop-k : goal.slice_bounds-code_place-end-in-loop-k
 slice_bounds-code_place-end-in-loop-k c =
-    let lies : (let l = c.loop-k in let a = c.args in (l.from + c.slot_octets.result ≤ length a.source.now) × (slot_octets * (l.k + 1) ≤ length l.frame)) =
     let l = c.loop-k in
-    let s = c in (
-      within s.requires l.invariant (omega (arith, c.loop-k-test.true)) c.slot_octets.ensures,
-      omega (arith, c.loop-k-test.true, l.invariant.filling.same, s.requires.lent.frame_long),
-    ) in
-    omega (arith, lies)
+    omega (arith, l.invariant.filling.same, c.requires.lent.frame_long)
 
 pub code_place-state-requires : goal.code_place-state-requires
-code_place-state-requires c =
-    let o = c in
-    let l = o.loop-k in
-    let s = o in
-    coding s.requires l.invariant (omega (arith, o.loop-k-test.true)) o.slot_octets.ensures
+code_place-state-requires c = coding c.requires c.loop-k.invariant (omega arith) c.slot_octets.ensures
 
 pub loop-k-preserved : goal.loop-k-preserved
-loop-k-preserved c =
-    let w = c in
-    let o = w in
-    let l = o.loop-k in
-    let s = o in
-    more s.requires l.invariant (omega (arith, o.loop-k-test.true)) o.slot_octets.ensures w.code_place-state.ensures.value w.code_place-state.ensures.coded_after
+loop-k-preserved c = more c.requires c.loop-k.invariant (omega arith) c.slot_octets.ensures c.code_place-state.ensures.value c.code_place-state.ensures.coded_after
 
 pub shape_of-frame : goal.shape_of-frame
 shape_of-frame c = c.loop-k.invariant.filling.same
@@ -146,5 +112,4 @@ shape_of-frame c = c.loop-k.invariant.filling.same
 pub returns : goal.returns
 returns c =
     let l = c.loop-k in
-    let s = c in
-    filling_all _ _ (slot_octets * l.k) l.frame l.invariant.filling (omega (arith, c.loop-k-test.false, s.requires.lent.frame_long))
+    filling_all _ _ (slot_octets * l.k) l.frame l.invariant.filling (omega (arith, c.requires.lent.frame_long))

@@ -1,5 +1,5 @@
 -- `slot_coder::code_slot`: what the tests of the call leave is all that the work on a slot may assume.
-use Rattle.std.proofs.Common.{◌≡◌, ℕ, List, sym, ap, ◌∙◌}
+use Rattle.std.proofs.Common.{◌≡◌, ℕ, sym, ap, ◌∙◌}
 use lib.ListN.{length-replicate}
 use Rattle.dispersal.specs.RegisterLaws.{register_is}
 use Rattle.plan.specs.States.{moved_on}

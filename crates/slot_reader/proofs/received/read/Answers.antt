@@ -4,7 +4,7 @@ use mathlib.Core.Bool.{false}
 use Prim.Native.Nat.{ℕ, ◌-◌, ◌≤◌}
 use native.Mathlib.Omega.{arith}
 use mathlib.Core.List.{List}
-use lib.ListN.{length, take}
+use lib.ListN.{length}
 use lib.Seq.{length-take-le}
 use Rattle.std.specs.Prelude.{eqb}
 use Rattle.lists.specs.PartLaws.{take_lent}
@@ -14,7 +14,7 @@ use Rattle.refusal.specs.Answers.{number as refusal_number}
 use Rattle.refusal.specs.AnswerLaws.{refused_not_0}
 use Rattle.codeword.specs.declared.Shape.{Shape}
 use Rattle.codeword.specs.Words.{run_bits}
-use Rattle.codeword.specs.Reading.{taken_off, message_in, position, tail_in, word_number}
+use Rattle.codeword.specs.Reading.{message_in, position, tail_in, word_number}
 use Rattle.codeword.proofs.ReadingLaws.{taken_off_bits}
 use Rattle.plan.specs.Needs.{Rows}
 use Rattle.plan.specs.Sizes.{slot_bits}
