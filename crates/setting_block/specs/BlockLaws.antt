@@ -211,7 +211,10 @@ right e block t =
       sum_right = eqb-true _ _ (and_right (all_zero (field_in (layout e).zeros block)) _ c);
     }
 
--- no octets are left behind eight groups and more
+-- the octets of groups that are not used, as a slice of those of all groups
+pub unused_some : (n : ℕ) (groups : List ℕ) → length groups ≡ 24 → part (3 * n) 24 groups ≡ drop (3 * n) groups
+unused_some n groups l = ap (λ (z : ℕ). part (3 * n) z groups) (sym l) ∙ part_rest (3 * n) groups
+
 pub unused_none : (n : ℕ) (groups : List ℕ) → length groups ≡ 24 → 24 ≤ 3 * n → all_zero (drop (3 * n) groups) ≡ true
 unused_none n groups l h = rw (drop_of_length-le groups {i = 3 * n} (omega arith)) (zeros_zero 0)
 
