@@ -1,4 +1,5 @@
-// The BCH bits of a message of octets, and of a message of bits.
+// The BCH bits of a message of octets, and of a message of bits: two loops, since octets stand as they are, and eights of bits
+// have to be gathered.
 ghost use Rattle.std.specs.Prelude.{◌≡◌, length};
 ghost use Rattle.bits.specs.Digits.{digits};
 ghost use Rattle.bits.specs.Octets.{bits_of};

@@ -13,7 +13,8 @@ pub use input::put_input;
 pub use sizes::run_bits;
 
 // The sizes of a codeword: the width of the dispersal register, the rows of the parity table, the bits of the message
-// and of the tail, the zeros before and behind them in the parity input, and the octets of the whole.
+// and of the tail, the zeros before and behind them in the parity input, and the octets of the whole. Whoever takes one asks
+// that its sizes add up (`Fits`), since anybody can fill one in.
 #[derive(Clone, Copy)]
 pub struct Shape {
     pub width: u32,

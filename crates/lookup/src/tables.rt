@@ -20,7 +20,7 @@ fn entries(plan: Plan) -> usize
     sum
 }
 
-// The same of any plan; 0 where it is refused.
+// The same of any plan; 0 where it is refused, as C is answered.
 #[tactic(auto, using(refusal::specs::AnswerLaws::refused_not_0, crate::proofs::LookupLaws::tables_few), unfolding(crate::specs::Lookups::tables_entries))]
 pub fn tables_entries(plan: Plan) -> usize
     ensures value { result ≡ tables_entries plan }

@@ -20,7 +20,7 @@ fn next_place(place: usize, edge: usize) -> usize
     }
 }
 
-// The lowest position at which the received parity is not that of the bits, or M where there is none.
+// The lowest position at which the received parity is not that of the bits, or M, where the walk ends, if there is none.
 // The 120 rows of a slot have 374 bits each: those of the first rows are added through their row's addresses, to sums
 // that stand in columns, and each bit of the others is a parity position, whose running sum must be the bit received.
 // The loops over rows, addresses and bits, left by the rows' label, are the form that is asked for.
@@ -35,7 +35,7 @@ pub fn lowest_wrong(
     ensures value { result ≡ lowest_wrong rows table.now bits.now received.now }
     ensures added_by_steps { AddedBySteps rows table.now bits.now (replicate (positions rows) 0) sums.new }
 {
-    bits::fill(sums, 0);
+    sums.fill(0);
     let q = 120 - rows;
     let edge = 374 * (119 - rows);
     let mut s = 0;

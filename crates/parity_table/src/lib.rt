@@ -29,7 +29,8 @@ fn row_ok(m: usize, table: &[u16], s: usize) -> bool
         && (0..count).all(|i| address_ok(m, table, from, i))
 }
 
-// The length of the accepted table at the head of a list, or 0 where none stands there.
+// The length of the accepted table at the head of a list, or 0 where none stands there: what the walk over a frame's tables
+// goes on by.
 pub fn table_length(rows: usize, list: &[u16]) -> usize
     requires { Rows rows }
     ensures { result ≡ table_length rows list.now }

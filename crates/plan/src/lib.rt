@@ -38,7 +38,7 @@ pub const BLOCK_OCTETS: usize = 3960;
 
 pub const BLOCK_WIDTH: u32 = 15;
 
-// A slot plan: of the groups 0, 1, .. the first `count` are in use.
+// A slot plan: of the groups 0, 1, .. the first `count` are in use. C hands it over in this layout, a column for each number.
 #[repr(C)]
 #[derive(Clone, Copy)]
 pub struct Plan {

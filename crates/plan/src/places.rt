@@ -13,6 +13,7 @@ pub fn place_of(plan: Plan, slot: usize) -> Place
     let mut g: usize = 0;
     let mut passed: usize = 0;
     let mut end = usize::from(plan.slots[0]);
+    // A walk to the group that reaches the slot: a `for` would need an end that no accepted plan comes to.
     while end < slot {
         g += 1;
         passed = end;

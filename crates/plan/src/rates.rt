@@ -1,4 +1,5 @@
-// Rates and modulations by their numbers, and what a rate says of its slots: 0 rows for a number that is no rate's.
+// Rates and modulations by their numbers, and what a rate says of its slots: 0 rows for a number that is no rate's, as callers
+// are answered. Both are numbers and no enums, since plans and callers hand in any, which the calls then refuse.
 ghost use Rattle.std.specs.Prelude.{◌&&◌, ◌≡◌, leb};
 ghost use Rattle.plan.specs.Rates.{rows_of, data_octets_of, packets_of};
 
@@ -17,13 +18,11 @@ pub fn known(x: u32, most: u32) -> bool
 const ROWS: [usize; 12] = [0, 41, 49, 61, 73, 81, 89, 93, 97, 101, 105, 109];
 
 // The rows R of the parity table.
+#[tactic(auto, unfolding(crate::specs::Rates::rows_of))]
 pub fn rows(rate: u32) -> usize
     ensures { result ≡ rows_of rate }
 {
-    if RATES < rate {
-        return 0;
-    }
-    ROWS[rate as usize]
+    ROWS.get(rate as usize).copied().unwrap_or(0)
 }
 
 // The data octets of a slot.

@@ -109,6 +109,7 @@ fn read_lines(text: &[u8]) -> Result<Plan, Refusal>
     let mut slots = [0; 8];
     let mut at: usize = 0;
     let mut count: u16 = 0;
+    // Each line says where the next begins, which no iterator gives.
     while at < text.len() {
         if count == 8 {
             return Err(Refusal::Plan);

@@ -21,7 +21,7 @@ fn place(rate: u32) -> Option<Range<usize>>
     Some(STARTS[k - 1]..STARTS[k])
 }
 
-// The length of the published table of a rate; 0 for a number that is no rate's.
+// The length of the published table of a rate; 0 for a number that is no rate's, as C is answered.
 pub fn table_length(rate: u32) -> usize
     ensures value { result ≡ length_of rate }
     ensures upper_bound { result ≤ 510 }

@@ -1,4 +1,5 @@
-// A block: its tests, what it holds, and how it is made.
+// A block: its tests, what it holds, and how it is made. Each function asks for the length of the slice that the calls cut from
+// a card.
 ghost use Rattle.std.specs.Prelude.{◌++◌, ◌≡◌, ◌&&◌, eqb, length};
 ghost use Rattle.lists.specs.Choice.{pick};
 ghost use Rattle.refusal.specs.Answers.{number};

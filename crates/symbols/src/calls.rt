@@ -1,4 +1,4 @@
-// The four calls: labels of a slot and of a TMCC block, and the way back.
+// The four calls: labels of a slot and of a TMCC block, and the way back. Slots and blocks have calls of their own in C.
 ghost use Rattle.std.specs.Prelude.{length};
 ghost use Rattle.refusal.specs.Answers.{Answered, number};
 ghost use Rattle.symbols.specs.Labels.{labels_of_slot, slot_of_labels, labels_of_block, block_of_labels, slot_number, slot_of_labels_number, block_number, block_of_labels_number};

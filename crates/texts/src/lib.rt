@@ -1,4 +1,5 @@
-// Texts written into an area, one behind the other: each function answers the place behind its text.
+// Texts written into an area that is lent, since nothing is allocated, one behind the other: each function answers the place
+// behind its text.
 #![tactic(auto)]
 
 ghost use Rattle.std.specs.Prelude.{◌≡◌, ◌+◌, ◌≤◌, length};

@@ -30,7 +30,7 @@ impl Slots<'_> {
         None
     }
 
-    // The next reported beginning from `slot` on, the slots' length where there is none.
+    // The next reported beginning from `slot` on, and where there is none the slots' length, at which reading stops.
     pub fn next_begin(self, slot: usize) -> usize
         ensures { result ≡ on_from self.entry.size (length self.entry.begins.now) self.entry.lost.now self.entry.begins.now slot }
     {

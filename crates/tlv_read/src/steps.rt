@@ -84,6 +84,7 @@ impl Slots<'_> {
         requires place { length packets.old ≡ length self.octets.now }
         ensures { ReadIs (read self.entry.size (length self.entry.begins.now) self.entry.lost.now self.entry.begins.now (octets self.entry.octets.now) (self.entry.size * length self.entry.begins.now) from) (as_read (Ok result)) packets.old packets.new }
     {
+        // Each step says where the next begins, which no iterator gives.
         let mut p = from;
         let mut w: usize = 0;
         loop {

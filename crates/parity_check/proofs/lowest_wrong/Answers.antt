@@ -84,7 +84,7 @@ add_address-requires c =
       some = omega (arith, c.requires.ready.rate.few);
       below = rw c.from-in-loop-address.ensures (row_below (positions a.rows) c.rows.s _ _ c.loop-address.address-index a.table.now w (omega arith) (omega (arith, c.from.ensures)) (search rules));
       bits = length_part b (b + 374) a.bits.now (omega (arith, c.requires.ready.long, c.if-r-rows.true)) ∙ omega arith;
-      places = c.loop-address.invariant.same ∙ (c.rows.invariant.adding.same ∙ c.fill.auto.to ∙ c.requires.ready.room);
+      places = c.loop-address.invariant.same ∙ (c.rows.invariant.adding.same ∙ c.fill.auto.self ∙ c.requires.ready.room);
     }
 
 pub loop-address-preserved : goal.loop-address-preserved
@@ -122,7 +122,7 @@ pub bounds-sums-place : goal.bounds-sums-place
 bounds-sums-place c =
     let h : c.loop.position < positions c.args.rows = omega (arith, c.loop.invariant.reached, c.rows.invariant.reached) in
     let w : c.loop.place < positions c.args.rows = rw c.loop.invariant.passed.stands (place_below (spacing c.args.rows) c.loop.position h) in
-    omega (arith, w, c.rows.invariant.adding.same ∙ c.fill.auto.to ∙ c.requires.ready.room)
+    omega (arith, w, c.rows.invariant.adding.same ∙ c.fill.auto.self ∙ c.requires.ready.room)
 
 pub bounds-received-position : goal.bounds-received-position
 bounds-received-position c =
@@ -138,7 +138,7 @@ next_place-place-requires c =
 pub loop-preserved : goal.loop-preserved
 loop-preserved c =
     let a = c.args in
-    let m = full a.rows c.rows.r a.table.now a.bits.now a.sums.now c.rows.sums c.fill.new.to c.fill.ensures c.requires.ready.room c.if-r-rows.false c.rows.invariant.adding in
+    let m = full a.rows c.rows.r a.table.now a.bits.now a.sums.now c.rows.sums c.fill.new.self (c.fill.ensures.after (λ y e. e)) c.requires.ready.room c.if-r-rows.false c.rows.invariant.adding in
     let h : c.loop.position < positions c.args.rows = omega (arith, c.loop.invariant.reached, c.rows.invariant.reached) in
     rw c.next_place-place.ensures (record {
       reached = omega (arith, c.loop.invariant.reached);
@@ -161,12 +161,12 @@ pub returns-after-rows : goal.returns-after-rows
 returns-after-rows c =
     let l = c.rows in
     let a = c.args in
-    let e : l.position ≡ positions a.rows = omega (arith, l.invariant.reached) in record { value = sym (lowest_wrong_is a.rows a.table.now a.bits.now a.received.now l.position (omega arith) l.invariant.passed.right (λ h. absurd (omega arith))); added_by_steps = full a.rows c.rows.r a.table.now a.bits.now a.sums.now c.rows.sums c.fill.new.to c.fill.ensures c.requires.ready.room (omega (arith, c.requires.ready.rate.few)) c.rows.invariant.adding }
+    let e : l.position ≡ positions a.rows = omega (arith, l.invariant.reached) in record { value = sym (lowest_wrong_is a.rows a.table.now a.bits.now a.received.now l.position (omega arith) l.invariant.passed.right (λ h. absurd (omega arith))); added_by_steps = full a.rows c.rows.r a.table.now a.bits.now a.sums.now c.rows.sums c.fill.new.self (c.fill.ensures.after (λ y e. e)) c.requires.ready.room (omega (arith, c.requires.ready.rate.few)) c.rows.invariant.adding }
 
 pub returns-then-last-from : goal.returns-then-last-from
 returns-then-last-from c =
     let a = c.args in
-    let m = full a.rows c.rows.r a.table.now a.bits.now a.sums.now c.rows.sums c.fill.new.to c.fill.ensures c.requires.ready.room c.if-r-rows.false c.rows.invariant.adding in
+    let m = full a.rows c.rows.r a.table.now a.bits.now a.sums.now c.rows.sums c.fill.new.self (c.fill.ensures.after (λ y e. e)) c.requires.ready.room c.if-r-rows.false c.rows.invariant.adding in
     let h : c.loop.position < positions c.args.rows = omega (arith, c.loop.invariant.reached, c.rows.invariant.reached) in
     let p = (parity_at a.rows a.table.now a.bits.now _ c.rows.sums c.requires.ready.ok refl m a.received.now c.loop.last c.loop.position c.loop.place c.from-in-loop.result
     c.loop.invariant.passed h c.from-in-loop.ensures).1 in record {
