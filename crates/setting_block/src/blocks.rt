@@ -1,5 +1,5 @@
-// A block: its tests, what it holds, and how it is made. Each function asks for the length of the slice that the calls cut from
-// a card.
+// A block: its tests, what it holds, and how it is made. The calls cut slices from a card, whose length `read_block` and what puts
+// a block ask for; a plan comes as callers have it, so that what puts one asks that it fits its octets.
 ghost use Rattle.std.specs.Prelude.{◌++◌, ◌≡◌, ◌&&◌, eqb, length};
 ghost use Rattle.lists.specs.Choice.{pick};
 ghost use Rattle.refusal.specs.Answers.{number};
@@ -40,8 +40,7 @@ const ZEROS: usize = 46;
 const SUM: usize = 510;
 
 // Whether the groups behind the count are zeros.
-fn unused_zero(block: &[u8]) -> bool
-    requires { Block block.now }
+fn unused_zero(block: &[u8; SETTING_OCTETS]) -> bool
     ensures { result ≡ all_zero (unused_in edition block.now) }
 {
     let groups = &block[GROUPS..SLOT_MASK];
@@ -51,24 +50,21 @@ fn unused_zero(block: &[u8]) -> bool
 }
 
 // Whether mark and edition are right.
-fn head_ok(block: &[u8]) -> bool
-    requires { Block block.now }
+fn head_ok(block: &[u8; SETTING_OCTETS]) -> bool
     ensures { result ≡ (same (field_in (layout edition).mark block.now) mark && eqb (number_in (layout edition).edition block.now) edition) }
 {
     block[0..EDITION_AT] == MARK[..] && number_of(&block[EDITION_AT..COUNT]) == EDITION
 }
 
 // Whether the fillers are zeros.
-fn fillers_zero(block: &[u8]) -> bool
-    requires { Block block.now }
+fn fillers_zero(block: &[u8; SETTING_OCTETS]) -> bool
     ensures { result ≡ (all_zero (unused_in edition block.now) && all_zero (field_in (layout edition).zeros block.now)) }
 {
     unused_zero(block) && all_zero(&block[ZEROS..SUM])
 }
 
 // Whether mark, edition, fillers and sum are right.
-fn block_ok(block: &[u8]) -> bool
-    requires { Block block.now }
+fn block_ok(block: &[u8; SETTING_OCTETS]) -> bool
     ensures { result ≡ block_ok edition block.now }
 {
     head_ok(block)
@@ -76,16 +72,14 @@ fn block_ok(block: &[u8]) -> bool
         && number_of(&block[SUM..SETTING_OCTETS]) == sum_of(&block[0..SUM])
 }
 
-fn plan_in(block: &[u8]) -> Plan
-    requires { Block block.now }
+fn plan_in(block: &[u8; SETTING_OCTETS]) -> Plan
     ensures { result ≡ plan_in edition block.now }
 {
     let count = number_of(&block[COUNT..GROUPS]) as u16;
     plan_octets::of_octets(count, &block[GROUPS..SLOT_MASK])
 }
 
-fn registers_in(block: &[u8]) -> Registers
-    requires { Block block.now }
+fn registers_in(block: &[u8; SETTING_OCTETS]) -> Registers
     ensures { result ≡ registers_in edition block.now }
 {
     let slots = Register {
@@ -133,6 +127,7 @@ pub fn read_block(block: &[u8]) -> Result<Settings, Refusal>
     requires { Block block.now }
     ensures { as_settings result ≡ answer (block_number edition block.now) (plan_in edition block.now) (registers_in edition block.now) }
 {
+    let block: &[u8; SETTING_OCTETS] = block.as_array().unwrap();
     if !block_ok(block) {
         return Err(Refusal::Block);
     }

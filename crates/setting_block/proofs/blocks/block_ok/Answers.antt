@@ -53,7 +53,7 @@ returns-then-fillers_zero c =
       | then-head_ok w ↦ rw w.if-head_ok.true (w.value-is ∙ w.fillers_zero.ensures)
       | else-head_ok w ↦ rw w.if-head_ok.false (w.value-is ∙ w.if-head_ok.false)
     ] in
-    let f = field_number b c.requires (layout edition).sum (omega arith) in
+    let f = field_number b c.told-block (layout edition).sum (omega arith) in
     ap₂ eqb (c.number_of.ensures ∙ f) c.sum_of.ensures ∙ decides b _ (d ∙ ap (λ (x : Bool). x && Fillers b) c.head_ok.ensures) c.if-fillers_zero.true
 
 pub returns-else-fillers_zero : goal.returns-else-fillers_zero

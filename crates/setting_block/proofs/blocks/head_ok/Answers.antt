@@ -19,7 +19,7 @@ pub returns-then-eq : goal.returns-then-eq
 returns-then-eq c =
     let b = c.args.block.now in
     let m : c.eq.result ≡ same (field_in (layout edition).mark b) mark = c.eq.ensures ∙ same_eq _ _ in
-    rw (sym m ∙ c.if-eq.true) (ap (λ (n : ℕ). eqb n 1) (c.number_of.ensures ∙ field_number b c.requires (layout edition).edition (omega arith)))
+    rw (sym m ∙ c.if-eq.true) (ap (λ (n : ℕ). eqb n 1) (c.number_of.ensures ∙ field_number b c.told-block (layout edition).edition (omega arith)))
 
 pub returns-else-eq : goal.returns-else-eq
 returns-else-eq c =

@@ -11,11 +11,11 @@ pub overflow_cast-count : goal.overflow_cast-count
 overflow_cast-count c =
     let s = c in
     let b = s.args.block.now in
-    omega (arith, c.number_of-count.ensures, field_number b s.requires (layout edition).count (omega arith), number_below 1 (field_in (layout edition).count b))
+    omega (arith, c.number_of-count.ensures, field_number b c.told-block (layout edition).count (omega arith), number_below 1 (field_in (layout edition).count b))
 
 pub returns : goal.returns
 unfolding plan_in
 returns c =
     let s = c in
     let n = c.number_of-count in
-    c.of_octets.ensures ∙ rw (n.ensures ∙ field_number s.args.block.now s.requires (layout edition).count (omega arith))
+    c.of_octets.ensures ∙ rw (n.ensures ∙ field_number s.args.block.now c.told-block (layout edition).count (omega arith))

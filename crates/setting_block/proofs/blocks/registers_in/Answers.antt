@@ -11,4 +11,4 @@ unfolding registers_in
 returns c =
     let s = c in
     let b = s.args.block.now in
-    rw (c.number_of.ensures ∙ field_number b s.requires (layout edition).slot_mask (omega arith), c.number_of-2.ensures ∙ field_number b s.requires (layout edition).slot_start (omega arith), c.number_of-3.ensures ∙ field_number b s.requires (layout edition).tmcc_mask (omega arith), c.number_of-4.ensures ∙ field_number b s.requires (layout edition).tmcc_start (omega arith))
+    rw (c.number_of.ensures ∙ field_number b c.told-block (layout edition).slot_mask (omega arith), c.number_of-2.ensures ∙ field_number b c.told-block (layout edition).slot_start (omega arith), c.number_of-3.ensures ∙ field_number b c.told-block (layout edition).tmcc_mask (omega arith), c.number_of-4.ensures ∙ field_number b c.told-block (layout edition).tmcc_start (omega arith))

@@ -9,6 +9,6 @@ pub returns-then-used-ge24 : goal.returns-then-used-ge24
 returns-then-used-ge24 c =
     let n = c.number_of-count in
     let b = c.args.block.now in
-    let e = n.ensures ∙ field_number b c.requires (layout edition).count (omega arith) in
+    let e = n.ensures ∙ field_number b c.told-block (layout edition).count (omega arith) in
     le-leb 24 _ c.if-used-ge24.true
-    ∙ rw e at (sym (unused_none n.result (field_in (layout edition).groups b) (length_field b c.requires (layout edition).groups (omega arith)) c.if-used-ge24.true))
+    ∙ rw e at (sym (unused_none n.result (field_in (layout edition).groups b) (length_field b c.told-block (layout edition).groups (omega arith)) c.if-used-ge24.true))
