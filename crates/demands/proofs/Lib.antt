@@ -6,6 +6,7 @@ pub mod TlvRules
 pub mod ParitySteps
 pub mod CardRules
 pub mod StuffRules
+pub mod OneRefusal
 pub mod PointRules
 pub mod PositionRules
 pub mod NumberRules

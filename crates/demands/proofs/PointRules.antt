@@ -1,5 +1,5 @@
 -- Document 02, N6, proved.
-use Rattle.std.specs.Prelude.{◌≡◌, false, not, ◌&&◌, List, T, eqb, Float, ℤ, Ok, Err, length, get_or}
+use Rattle.std.specs.Prelude.{◌≡◌, false, not, ◌&&◌, List, T, eqb, Float, ℤ, Result, Ok, Err, length, get_or}
 use Rattle.std.proofs.Math.Path.{refl}
 use Rattle.std.proofs.Common.{sym, ap, ap₂, ◌∙◌, inl, inr}
 use Rattle.std.proofs.Math.Bool.{Bool, true}
@@ -17,7 +17,9 @@ use Rattle.lists.specs.Choice.{pick, and_then}
 use Rattle.lists.specs.ChoiceLaws.{pick_each, and_left, and_right, and_both, or_cases, then_zero, not_refused}
 use Rattle.lists.specs.Count.{every}
 use Rattle.lists.specs.CountLaws.{every_at, every_all}
-use Rattle.refusal.specs.Numbers.{PLAN, LENGTH, REGISTER, LABEL, COORDINATE}
+use Rattle.refusal.specs.Numbers.{PLAN, LENGTH, REGISTER, PARITY, LABEL, COORDINATE}
+use Rattle.refusal.specs.declared.Refusal.{Refusal}
+use Rattle.demands.proofs.OneRefusal.{one_refusal}
 use Rattle.dispersal.specs.Register.{top, mask_ok, settings_ok}
 use Rattle.dispersal.specs.RegisterLaws.{after_none, after_more, after_ok}
 use Rattle.plan.specs.Rates.{modulation_ok, symbols_of}
@@ -27,19 +29,29 @@ use Rattle.symbols.specs.LabelLaws.{length_octet_labels, octet_labels_below}
 use Rattle.symbols.specs.CallLaws.{labels_fit_yes}
 use Rattle.points.specs.declared.Point.{Point}
 use Rattle.points.specs.Points.{quarter_turn, half_turn, lent_point, bpsk, shifted, point_of, arranged_width, arranged_of, used_ok}
+use Rattle.points.specs.Answers.{Answers}
 use Rattle.points.proofs.PointLaws.{length_in_phase, length_quadrature, in_phase_at, quadrature_at}
 use Rattle.points.proofs.AnswerLaws.{point_answered, refusal_answered, values_answered}
 use Rattle.points.specs.Numbers.{symbol_ok, lent_ok, lent_number, mapped_number, room_ok, used_number, point_number, points_number, step_answer}
 use Rattle.points.proofs.NumberLaws.{Lent, lent, and_true}
 use Rattle.demands.specs.PointRequests.{OneAnswer, AnswerByValue, SymbolsTurned, ArrangedTurned, ArrangedStepped, EntryOrNegation, CoordinatesLent, SignsTurned, CoordinatesExact, Finite, PointsFinite, TurnsBack, InOrder, PointsRefused, UnusedUnseen, LabelsTaken, RunOneByOne}
 
+-- answers of one number and one point are the same
+agree : (n : ℕ) (p : Point) (r s : Result Point Refusal) → (n ≡ PARITY → ⊥) → Answers n p r → Answers n p s → s ≡ r
+agree n p (Ok x) (Ok y) h a b = ap Ok ((point_answered n p y b).1 ∙ sym (point_answered n p x a).1)
+agree n p (Ok x) (Err e) h a b = absurd ((refusal_answered n p e b).1 (point_answered n p x a).0)
+agree n p (Err e) (Ok y) h a b = absurd ((refusal_answered n p e a).1 (point_answered n p y b).0)
+agree n p (Err e) (Err f) h a b =
+    let d = (refusal_answered n p f b).0 in
+    ap Err (one_refusal f e (d ∙ sym (refusal_answered n p e a).0) (λ z. h (sym d ∙ z)))
+
 pub one_answer : OneAnswer
 one_answer n p (Ok r) a =
     let f = point_answered n p r a in
-    record { accepted = λ z. rw f.1; refused = λ d. absurd (d f.0) }
+    record { accepted = λ z. rw f.1; refused = λ d. absurd (d f.0); alone = λ h s b. agree n p (Ok r) s h a b }
 one_answer n p (Err e) a =
     let f = refusal_answered n p e a in
-    record { accepted = λ z. absurd (f.1 z); refused = λ d. (e, refl, f.0) }
+    record { accepted = λ z. absurd (f.1 z); refused = λ d. (e, refl, f.0); alone = λ h s b. agree n p (Err e) s h a b }
 
 pub answer_by_value : AnswerByValue
 answer_by_value =

@@ -6,7 +6,7 @@ use Rattle.std.specs.Float.Ieee.Scale.{finite}
 use Rattle.lists.specs.Count.{every}
 use Rattle.refusal.specs.Answers.{number_of}
 use Rattle.refusal.specs.declared.Refusal.{Refusal}
-use Rattle.refusal.specs.Numbers.{PLAN, LENGTH, REGISTER, LABEL, COORDINATE}
+use Rattle.refusal.specs.Numbers.{PLAN, LENGTH, REGISTER, PARITY, LABEL, COORDINATE}
 use Rattle.dispersal.specs.Register.{step, top, settings_ok}
 use Rattle.plan.specs.Rates.{modulation_ok, symbols_of}
 use Rattle.symbols.specs.Labels.{block_labels, labels_of_slot, labels_of_block, label_number}
@@ -20,6 +20,8 @@ use Rattle.points.specs.Numbers.{lent_ok, room_ok, point_number, arranged_number
 pub record PointOrRefusal (n : ℕ) (p : Point) (r : Result Point Refusal) : Type 0 where
   pub accepted : n ≡ 0 → r ≡ Ok p
   pub refused : (n ≡ 0 → ⊥) → (e : Refusal) × (r ≡ Err e) × (number_of e ≡ n)
+  -- only the refusal of a parity, which no call on points gives, has more to it than its number
+  pub alone : (n ≡ PARITY → ⊥) → (s : Result Point Refusal) → Answers n p s → s ≡ r
 
 abbrev pub OneAnswer : Type 0
 OneAnswer = (n : ℕ) (p : Point) (r : Result Point Refusal) → Answers n p r → PointOrRefusal n p r

@@ -76,7 +76,8 @@ impl EightSteps {
         }
     }
 
-    // Disperses a run of whole eights, eight bits at a time.
+    // Disperses a run of whole eights, eight bits at a time: parts by index, since of chunks_exact_mut a proof knows the length
+    // alone.
     pub fn disperse_eights(&self, register: u32, run: &mut [u8]) -> u32
         requires register { register < 2 ^ self.now.width }
         requires run { length run.old % 8 ≡ 0 }

@@ -29,7 +29,8 @@ fn code_place(
     plan::pass(state).unwrap()
 }
 
-// Codes every slot of a frame into its part of the area, from the header and data octets that follow each other.
+// Codes every slot of a frame into its part of the area, from the header and data octets that follow each other. Parts are cut
+// by index: of chunks_exact_mut a proof knows the length alone.
 fn code_slots(
     plan: Plan,
     mask: u32,

@@ -34,7 +34,7 @@ fn read_place(
     })
 }
 
-// Reads every slot of a frame from its part of the area; header and data octets follow each other.
+// Reads every slot of a frame from its part of the area; header and data octets follow each other. k is the index of four areas.
 fn read_slots(
     plan: Plan,
     mask: u32,

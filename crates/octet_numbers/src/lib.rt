@@ -1,4 +1,5 @@
-// Numbers in octets, the highest octet first, and what is asked of runs of octets.
+// Numbers in octets, the highest octet first, and what is asked of runs of octets. A run is a field of one to four octets cut
+// from a block, so that its length is asked for: an array would fix one size.
 #![tactic(auto)]
 
 ghost use Rattle.std.specs.Prelude.{◌≡◌, ◌≤◌, length};

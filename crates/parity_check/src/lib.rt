@@ -23,7 +23,7 @@ fn next_place(place: usize, edge: usize) -> usize
 // The lowest position at which the received parity is not that of the bits, or M, where the walk ends, if there is none.
 // The 120 rows of a slot have 374 bits each: those of the first rows are added through their row's addresses, to sums
 // that stand in columns, and each bit of the others is a parity position, whose running sum must be the bit received.
-// The loops over rows, addresses and bits, left by the rows' label, are the form that is asked for.
+// The loops over rows, addresses and bits, left by the rows' label, are the form that document 01 names.
 pub fn lowest_wrong(
     rows: usize,
     table: &[u16],

@@ -1,4 +1,5 @@
-// The rules of a plan, each tested over the whole of it: number of groups, values, order, total.
+// The rules of a plan, each tested over the whole of it: number of groups, values, order, total. A plan as callers have it may
+// hold any count, so that each rule asks for what the rules before it have shown.
 ghost use Rattle.std.specs.Prelude.{◌≡◌, ◌+◌, ◌≤◌, ◌<◌};
 ghost use Rattle.refusal.specs.Answers.{number};
 ghost use Rattle.plan.specs.Plans.{slots_before, values_ok, falls_after, all_values_ok, all_fall, rule_number, plan_number, data_slots_of};

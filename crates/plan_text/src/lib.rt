@@ -1,4 +1,5 @@
-// A plan's text, as plan-list has it, read: lines of modulation, rate and slots.
+// A plan's text, as plan-list has it, read: lines of modulation, rate and slots. A place comes beside its text, as the
+// definitions have it, and with a bound that keeps sums of places small.
 #![tactic(auto)]
 
 ghost use Rattle.std.specs.Prelude.{◌||◌, not, ◌≡◌, ◌≤◌, Some, None, eqb, get_or};

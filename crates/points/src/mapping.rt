@@ -9,7 +9,7 @@ use crate::turns::quarter_turn;
 // The number of BPSK, whose even symbols are turned.
 pub const BPSK: u32 = 1;
 
-// The lent lists of coordinates, with one entry for each label.
+// The lent lists of coordinates; a call tests that each label has its entry.
 #[derive(Clone, Copy)]
 pub struct Entries<'a> {
     pub in_phase: &'a [f32],
@@ -51,7 +51,8 @@ fn shift(modulation: u32, symbol: usize, p: Point) -> Point
     p
 }
 
-// Puts the coordinates of the labels' points, the first label as symbol number `symbol`.
+// Puts the coordinates of the labels' points, the first label as symbol number `symbol`; by index, since of a zip over iter_mut
+// a proof knows the length alone.
 pub fn put_points(
     modulation: u32,
     symbol: u32,

@@ -50,7 +50,7 @@ pub fn check_lent(
     Err(Refusal::Length)
 }
 
-// The entries that labels use are finite.
+// Tests that the entries that labels use are finite.
 fn check_used(labels: &[u8], entries: Entries) -> Result<(), Refusal>
     requires { AllListed entries.in_phase.now entries.quadrature.now labels.now }
     ensures { number result ≡ used_number labels.now entries.entry.in_phase.now entries.entry.quadrature.now }

@@ -1,5 +1,5 @@
 // Copying the published table of a rate.
-ghost use Rattle.std.specs.Prelude.{◌≡◌, ◌-◌, ◌≤◌, length, true, false, MatchOption};
+ghost use Rattle.std.specs.Prelude.{◌≡◌, ◌-◌, ◌≤◌, true, false, MatchOption};
 ghost use Rattle.lists.specs.Count.{joined};
 ghost use Rattle.lists.specs.CountLaws.{joined_at};
 ghost use Rattle.refusal.specs.Answers.{Answered, number};

@@ -1,5 +1,5 @@
-// A block: its tests, what it holds, and how it is made. The calls cut slices from a card, whose length `read_block` and what puts
-// a block ask for; a plan comes as callers have it, so that what puts one asks that it fits its octets.
+// A block: its tests, what it holds, and how it is made. Blocks are cut from a card as slices, so that their length is asked for;
+// a plan is taken as callers have it, so that what writes it asks that its numbers fit their octets.
 ghost use Rattle.std.specs.Prelude.{◌++◌, ◌≡◌, ◌&&◌, eqb, length};
 ghost use Rattle.lists.specs.Choice.{pick};
 ghost use Rattle.refusal.specs.Answers.{number};

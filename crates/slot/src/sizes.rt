@@ -1,4 +1,4 @@
-// How many bits and octets the parts of a slot have, for the row count of a known rate.
+// How many bits and octets the parts of a slot have, for the row count of a known rate: a number, as `rows` of plan gives C.
 ghost use Rattle.std.specs.Prelude.{◌≡◌};
 ghost use Rattle.plan.specs.Needs.{Rows};
 ghost use Rattle.slot.specs.Slots.{message_bits, source_octets, slot_shape};

@@ -14,7 +14,8 @@ pub struct Slots<'a> {
 }
 
 impl Slots<'_> {
-    // The first lost slot from `slot` on that begins before octet `to`.
+    // The first lost slot from `slot` on that begins before octet `to`. The mark of a slot and its place go by one index, here and
+    // below.
     pub fn first_lost(self, slot: usize, to: usize) -> Option<usize>
         ensures first { unwrap_or result (length self.entry.begins.now) ≡ lost_from self.entry.size (length self.entry.begins.now) self.entry.lost.now slot to }
         ensures within { IfSome result (λ k. k < length self.entry.begins.now) }

@@ -37,17 +37,17 @@ pub fn wrong_position(
     parity_check::lowest_wrong(shape.rows, table, input, &bits[run..], sums)
 }
 
-// The refusal of a parity whose lowest wrong position this is.
+// The refusal of a parity whose lowest wrong position this is. Every position of a parity fits a u16.
 #[tactic(auto, unfolding(codeword::specs::Reading::parity_number))]
 pub fn check_parity(shape: Shape, wrong: usize) -> Result<(), Refusal>
-    requires fits { Fits shape }
-    requires few { wrong < 65536 }
-    ensures { as_word_answer result ≡ word_answer (parity_number shape wrong) wrong }
+    requires { Fits shape }
+    ensures number { number result ≡ parity_number shape wrong }
+    ensures position { wrong < 65536 → as_word_answer result ≡ word_answer (parity_number shape wrong) wrong }
 {
     if wrong == 374 * (120 - shape.rows) {
         return Ok(());
     }
-    Err(Refusal::Parity(wrong as u16))
+    Err(Refusal::Parity(wrong.min(65535) as u16))
 }
 
 // The refusal of parity or BCH bits, in this order.

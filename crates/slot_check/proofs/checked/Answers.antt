@@ -16,16 +16,11 @@ wrong_position-wrong-requires c =
 
 pub check_parity-requires : goal.check_parity-requires
 check_parity-requires c =
-    let a = c.args in
-    let e = c.wrong_position-wrong.ensures.value ∙ ap (λ (F : Shape). wrong_position F a.table.now a.coded.now) c.shape-shape.ensures in
-    record {
-      fits = rw c.shape-shape.ensures (fits a.rows c.requires.rate);
-      few = omega (arith, e, wrong_few (slot_shape a.rows) a.table.now a.coded.now);
-    }
+    rw c.shape-shape.ensures (fits c.args.rows c.requires.rate)
 
 pub returns : goal.returns
 unfolding checked_number failing_in
 returns c =
     let a = c.args in
     let e = c.wrong_position-wrong.ensures.value ∙ ap (λ (F : Shape). wrong_position F a.table.now a.coded.now) c.shape-shape.ensures in
-    c.check_parity.ensures ∙ ap₂ (λ (F : Shape) (w : ℕ). word_answer (parity_number F w) w) c.shape-shape.ensures e
+    c.check_parity.ensures.position (omega (arith, e, wrong_few (slot_shape a.rows) a.table.now a.coded.now)) ∙ ap₂ (λ (F : Shape) (w : ℕ). word_answer (parity_number F w) w) c.shape-shape.ensures e
