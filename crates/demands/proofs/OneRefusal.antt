@@ -27,6 +27,7 @@ refusal_of n =
     Coordinate))))))))))))))
 
 back : (r : Refusal) → (number_of r ≡ PARITY → ⊥) → refusal_of (number_of r) ≡ r
+unfolding refusal_of
 back Plan h = refl
 back Dummy h = refl
 back Full h = refl
