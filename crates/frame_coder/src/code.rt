@@ -10,6 +10,7 @@ use plan::{FrameState, Plan};
 use refusal::Refusal;
 
 // Codes the state's next slot, or passes it where it is a dummy; the state after it. Neither is refused in a frame's own slots.
+// Tables and ends stand apart, since what ties them speaks of the plan too.
 fn code_place(
     state: FrameState,
     tables: &[u16],

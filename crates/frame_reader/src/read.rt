@@ -11,7 +11,7 @@ use refusal::Refusal;
 use slot::{SlotRead, SlotReading};
 
 // Reads the state's next slot, or passes it where it is a dummy: its answer, the state after it, its stuff bits, and its failing
-// position.
+// position. Tables and ends stand apart, since what ties them speaks of the plan too.
 fn read_place(
     state: FrameState,
     tables: &[u16],

@@ -27,7 +27,8 @@ fn check_form(rate: u32, table: &[u16], coded: &[u8]) -> Result<(), Refusal>
     Ok(())
 }
 
-// Checks the parity of a received slot. The areas hold the slot's bits, its parity input and its sums.
+// Checks the parity of a received slot. The areas hold the slot's bits, its parity input and its sums; they are arrays of the
+// caller's, as there is no heap.
 fn checked(
     rows: usize,
     table: &[u16],

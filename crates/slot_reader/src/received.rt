@@ -31,7 +31,8 @@ fn take_source(rows: usize, plain: &[u8], source: &mut [u8]) -> u8
     bits::gather(&plain[stuff..]) as u8
 }
 
-// The codeword of a slot, read: message, BCH bits and stuff bits are left at the head of the bits' area.
+// The codeword of a slot, read: message, BCH bits and stuff bits are left at the head of the bits' area. The areas are arrays of
+// the caller's, as there is no heap, and are cut to a codeword's sizes here.
 fn read_codeword(
     rows: usize,
     table: &[u16],

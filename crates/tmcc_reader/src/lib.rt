@@ -20,7 +20,7 @@ fn put_source(run: &mut [u8], source: &mut [u8])
     bits::collect(&run[0..SOURCE_BITS], source);
 }
 
-// A block read by way of lent areas: its octets where nothing refuses it.
+// A block read by way of lent areas, which are arrays of the caller's, as there is no heap: its octets where nothing refuses it.
 fn read(
     table: &[u16],
     mask: u32,
