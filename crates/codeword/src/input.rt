@@ -13,6 +13,6 @@ pub fn put_input(shape: Shape, run: &[u8], input: &mut [u8])
     let (before, rest) = input.split_at_mut(shape.before);
     let (sent, behind) = rest.split_at_mut(run.len());
     before.fill(0);
-    sent.copy_from_slice(run);
+    bits::copy(run, sent);
     behind.fill(0);
 }

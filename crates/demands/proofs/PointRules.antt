@@ -1,5 +1,5 @@
 -- Document 02, N6, proved.
-use Rattle.std.specs.Prelude.{◌≡◌, false, not, ◌&&◌, List, T, eqb, Float, ℤ, Result, Ok, Err, length, get_or}
+use Rattle.std.specs.Prelude.{◌≡◌, false, not, ◌&&◌, List, [], ◌∷◌, T, eqb, Float, ℤ, Result, Ok, Err, length, get_or}
 use Rattle.std.proofs.Math.Path.{refl}
 use Rattle.std.proofs.Common.{sym, ap, ap₂, ◌∙◌, inl, inr}
 use Rattle.std.proofs.Math.Bool.{Bool, true}
@@ -19,7 +19,9 @@ use Rattle.lists.specs.Count.{every}
 use Rattle.lists.specs.CountLaws.{every_at, every_all}
 use Rattle.refusal.specs.Numbers.{PLAN, LENGTH, REGISTER, PARITY, LABEL, COORDINATE}
 use Rattle.refusal.specs.declared.Refusal.{Refusal}
+use Rattle.demands.specs.CallStatements.{among}
 use Rattle.demands.proofs.OneRefusal.{one_refusal}
+use Rattle.demands.proofs.NumberRules.{own_numbers}
 use Rattle.dispersal.specs.Register.{top, mask_ok, settings_ok}
 use Rattle.dispersal.specs.RegisterLaws.{after_none, after_more, after_ok}
 use Rattle.plan.specs.Rates.{modulation_ok, symbols_of}
@@ -34,7 +36,7 @@ use Rattle.points.proofs.PointLaws.{length_in_phase, length_quadrature, in_phase
 use Rattle.points.proofs.AnswerLaws.{point_answered, refusal_answered, values_answered}
 use Rattle.points.specs.Numbers.{symbol_ok, lent_ok, lent_number, mapped_number, room_ok, used_number, point_number, points_number, step_answer}
 use Rattle.points.proofs.NumberLaws.{Lent, lent, and_true}
-use Rattle.demands.specs.PointRequests.{OneAnswer, AnswerByValue, SymbolsTurned, ArrangedTurned, ArrangedStepped, EntryOrNegation, CoordinatesLent, SignsTurned, CoordinatesExact, Finite, PointsFinite, TurnsBack, InOrder, PointsRefused, UnusedUnseen, LabelsTaken, RunOneByOne}
+use Rattle.demands.specs.PointRequests.{PointOrRefusal, OneAnswer, AnswerByValue, SymbolsTurned, ArrangedTurned, ArrangedStepped, EntryOrNegation, CoordinatesLent, SignsTurned, CoordinatesExact, Finite, PointsFinite, TurnsBack, InOrder, PointsRefused, UnusedUnseen, LabelsTaken, RunOneByOne}
 
 -- answers of one number and one point are the same
 agree : (n : ℕ) (p : Point) (r s : Result Point Refusal) → (n ≡ PARITY → ⊥) → Answers n p r → Answers n p s → s ≡ r
@@ -45,13 +47,25 @@ agree n p (Err e) (Err f) h a b =
     let d = (refusal_answered n p f b).0 in
     ap Err (one_refusal f e (d ∙ sym (refusal_answered n p e a).0) (λ z. h (sym d ∙ z)))
 
-pub one_answer : OneAnswer
-one_answer n p (Ok r) a =
+one_of : (n : ℕ) (p : Point) (r : Result Point Refusal) → Answers n p r → PointOrRefusal n p r
+one_of n p (Ok r) a =
     let f = point_answered n p r a in
     record { accepted = λ z. rw f.1; refused = λ d. absurd (d f.0); alone = λ h s b. agree n p (Ok r) s h a b }
-one_answer n p (Err e) a =
+one_of n p (Err e) a =
     let f = refusal_answered n p e a in
     record { accepted = λ z. absurd (f.1 z); refused = λ d. (e, refl, f.0); alone = λ h s b. agree n p (Err e) s h a b }
+
+-- a number of a list that lacks the parity's is not the parity's
+apart : (ns : List ℕ) (n : ℕ) → among ns n ≡ true → among ns PARITY ≡ false → n ≡ PARITY → ⊥
+apart ns n h f e = false≢true (sym f ∙ (rw e at h))
+
+pub one_answer : OneAnswer
+one_answer =
+    record {
+      any = one_of;
+      point = λ m label symbol ins quads p r s a b. agree _ p r s (apart (0 ∷ PLAN ∷ LENGTH ∷ LABEL ∷ COORDINATE ∷ []) _ (own_numbers.point m label symbol ins quads) refl) a b;
+      arranged = λ m label symbol ins quads mask register p r s a b. agree _ p r s (apart (0 ∷ PLAN ∷ REGISTER ∷ LENGTH ∷ LABEL ∷ COORDINATE ∷ []) _ (own_numbers.arranged_point m label symbol ins quads mask register) refl) a b;
+    }
 
 pub answer_by_value : AnswerByValue
 answer_by_value =

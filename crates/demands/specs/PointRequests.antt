@@ -23,8 +23,16 @@ pub record PointOrRefusal (n : ℕ) (p : Point) (r : Result Point Refusal) : Typ
   -- only the refusal of a parity, which no call on points gives, has more to it than its number
   pub alone : (n ≡ PARITY → ⊥) → (s : Result Point Refusal) → Answers n p s → s ≡ r
 
-abbrev pub OneAnswer : Type 0
-OneAnswer = (n : ℕ) (p : Point) (r : Result Point Refusal) → Answers n p r → PointOrRefusal n p r
+-- so the contract of each call leaves one answer, whatever is handed in
+pub record OneAnswer : Type 0 where
+  pub any : (n : ℕ) (p : Point) (r : Result Point Refusal) → Answers n p r → PointOrRefusal n p r
+  pub point : (m label symbol : ℕ) (ins quads : List Float) (p : Point) (r s : Result Point Refusal)
+      → Answers (point_number m label symbol ins quads) p r
+      → Answers (point_number m label symbol ins quads) p s
+      → s ≡ r
+  pub arranged : (m label symbol : ℕ) (ins quads : List Float) (mask register : ℕ) (p : Point) (r s : Result Point Refusal)
+      → Answers (arranged_number m label symbol ins quads mask register) p r
+      → Answers (arranged_number m label symbol ins quads mask register) p s → s ≡ r
 
 -- the same for C, where number and coordinates stand side by side: those of the point where the number is 0; and "Every other
 -- number returned with a refusal is 0" (document 01), so that both are +0 where it is not

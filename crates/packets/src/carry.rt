@@ -23,7 +23,7 @@ pub fn leave_out(count: usize, packets: &[u8], octets: &mut [u8])
 {
     for i in 0..count {
         let rest = &packets[188 * i + 1..188 * (i + 1)];
-        octets[187 * i..187 * (i + 1)].copy_from_slice(rest);
+        bits::copy(rest, &mut octets[187 * i..187 * (i + 1)]);
     }
 }
 
@@ -35,6 +35,6 @@ pub fn put_back(count: usize, octets: &[u8], packets: &mut [u8])
     for i in 0..count {
         let rest = &octets[187 * i..187 * (i + 1)];
         packets[188 * i] = SYNC_OCTET;
-        packets[188 * i + 1..188 * (i + 1)].copy_from_slice(rest);
+        bits::copy(rest, &mut packets[188 * i + 1..188 * (i + 1)]);
     }
 }

@@ -6,7 +6,7 @@ use Rattle.refusal.specs.AnswerLaws.{refused_not_0}
 use Rattle.refusal.specs.declared.Refusal.{Refusal}
 use Rattle.points.specs.declared.Point.{Point}
 use Rattle.points.specs.Points.{arranged_of}
-use Rattle.points.specs.Answers.{coordinates, valued, as_values, point_values, Answers}
+use Rattle.points.specs.Answers.{coordinates, valued, as_values, point_values, Answers, turned_answer}
 
 pub refused : (n : ℕ) (p : Point) (e : Refusal) → number_of e ≡ n → Answers n p (Err e)
 refused n p e h = record { number = h; values = rw (← h, refused_not_0 e) }
@@ -48,3 +48,7 @@ point_turned register n p r a =
 
 pub refusal_turned : (register n : ℕ) (p : Point) (e : Refusal) → Answers n p (Err e) → Answers n (arranged_of register p) (Err e)
 refusal_turned register n p e a = refused n (arranged_of register p) e a.number
+
+pub turned : (register n : ℕ) (p : Point) (r : Result Point Refusal) → Answers n p r → Answers n (arranged_of register p) (turned_answer register r)
+turned register n p (Ok r) a = point_turned register n p r a
+turned register n p (Err e) a = refusal_turned register n p e a

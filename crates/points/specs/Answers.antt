@@ -7,7 +7,7 @@ use Rattle.refusal.specs.Answers.{Answered, number}
 use Rattle.refusal.specs.declared.Refusal.{Refusal}
 use Rattle.points.specs.declared.Point.{Point}
 use Rattle.points.specs.declared.PointValues.{PointValues}
-use Rattle.points.specs.Points.{in_phase_of, quadrature_of}
+use Rattle.points.specs.Points.{arranged_of, in_phase_of, quadrature_of}
 use Rattle.points.specs.Numbers.{points_number}
 
 -- "a point with both coordinates": I, then Q
@@ -40,6 +40,11 @@ point_values n p = valued n (pick (eqb n 0) (coordinates p) [])
 pub record Answers (n : ℕ) (p : Point) (r : Result Point Refusal) : Type 0 where
   pub number : number r ≡ n
   pub values : values_of r ≡ pick (eqb n 0) (coordinates p) []
+
+-- an answer in the signal point arrangement signal: its point "turn[s] by 180 degrees" by the register
+abbrev pub turned_answer : ℕ → Result Point Refusal → Result Point Refusal
+turned_answer register (Ok p) = Ok (arranged_of register p)
+turned_answer register (Err e) = Err e
 
 -- the points of a run of labels: the call's number r, and both areas, left as found by a refusal
 pub record PointsMade (m symbol : ℕ) (labels : List ℕ) (ins quads is qs : List Float) (r : ℕ) (i-left q-left : List Float) : Type 0 where

@@ -5,7 +5,7 @@ mod answers;
 mod calls;
 mod sizes;
 
-pub use calls::check_slot;
+pub use calls::{check_slot, rows_at};
 use plan::FrameState;
 use refusal::Refusal;
 pub use sizes::{message_bits, shape, source_octets};

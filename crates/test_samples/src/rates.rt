@@ -28,5 +28,5 @@ pub fn opened(rate: u16) -> FrameState {
 pub fn source_length(rate: u16) -> usize
     ensures { result ≤ most_source }
 {
-    22 + plan::data_octets(rate as u32)
+    22 + plan::data_octets(u32::from(rate))
 }

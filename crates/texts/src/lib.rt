@@ -12,7 +12,7 @@ pub fn put_text(out: &mut [u8], at: usize, text: &[u8]) -> usize
     ensures { Written text.now at out.old out.new result }
 {
     let end = at + text.len();
-    out[at..end].copy_from_slice(text);
+    bits::copy(text, &mut out[at..end]);
     end
 }
 

@@ -34,6 +34,6 @@ pub fn lay(packets: &[u8], taken: usize, owed: usize, slots: &mut [u8])
     let (front, rest) = slots.split_at_mut(owed);
     let (middle, back) = rest.split_at_mut(carried);
     put_fillers(4 - owed, front);
-    middle.copy_from_slice(&packets[taken..taken + carried]);
+    bits::copy(&packets[taken..taken + carried], middle);
     put_fillers(0, back);
 }

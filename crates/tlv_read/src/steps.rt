@@ -96,7 +96,7 @@ impl Slots<'_> {
                     };
                 }
                 Move::On { size, at } => {
-                    packets[w..w + size].copy_from_slice(&self.octets[p..p + size]);
+                    bits::copy(&self.octets[p..p + size], &mut packets[w..w + size]);
                     w += size;
                     p = at;
                 }

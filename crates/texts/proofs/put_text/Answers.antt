@@ -9,4 +9,4 @@ returns c =
     let a = c.args in
     let r = c.requires.room in
     written a.text.now a.at a.out.now _ _ (omega arith)
-    (rw c.copy_from_slice.ensures.after (put_lent a.at _ a.out.now a.text.now (omega arith) (omega arith))) refl
+    (rw c.copy.ensures (put_lent a.at _ a.out.now a.text.now (omega arith) (omega arith))) refl

@@ -15,4 +15,4 @@ returns c =
     let front = c.split_at_mut-before.ensures.front_len in
     let behind : length c.split_at_mut-sent.result.1.now ≡ F.behind = omega (arith, c.split_at_mut-before.ensures.back_len, c.split_at_mut-sent.ensures.back_len, c.requires.fits.input, c.requires.room, c.requires.run_long) in
     ap₂ (λ (p q : List ℕ). p ++ q) (zeros_are _ _ F.before (c.fill.ensures.after (λ y e. e)) (omega (arith, front)))
-    (ap₂ (λ (p q : List ℕ). p ++ q) c.copy_from_slice.ensures.after (zeros_are _ _ F.behind (c.fill-2.ensures.after (λ y e. e)) behind))
+    (ap₂ (λ (p q : List ℕ). p ++ q) c.copy.ensures (zeros_are _ _ F.behind (c.fill-2.ensures.after (λ y e. e)) behind))

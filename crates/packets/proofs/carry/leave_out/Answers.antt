@@ -11,7 +11,7 @@ pub loop-i-preserved : goal.loop-i-preserved
 loop-i-preserved c =
     let i = c.loop-i.i in
     let p = packed_at c.args.count c.args.packets.now c.requires.packets i (omega arith) in
-    filling_part _ _ (187 * i) _ c.loop-i.invariant (187 * (i + 1)) _ (omega arith) (omega (arith, c.requires.octets)) (c.copy_from_slice.ensures.after ∙ sym p)
+    filling_part _ _ (187 * i) _ c.loop-i.invariant (187 * (i + 1)) _ (omega arith) (omega (arith, c.requires.octets)) (c.copy.ensures ∙ sym p)
 
 pub returns : goal.returns
 returns c = filling_all _ _ _ _ c.loop-i.invariant (omega (arith, c.requires.octets))

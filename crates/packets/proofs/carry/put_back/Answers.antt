@@ -14,7 +14,7 @@ loop-i-preserved c =
     let u = c.args.octets.now in
     let f = filling_more _ _ (188 * i) _ c.loop-i.invariant 0x47 (omega (arith, c.requires.packets)) (sym (unpacked_first n u c.requires.octets i (omega arith))) in
     let r = unpacked_rest n u c.requires.octets i (omega arith) in
-    filling_part _ _ (188 * i + 1) _ f (188 * (i + 1)) _ (omega arith) (omega (arith, c.requires.packets)) (c.copy_from_slice.ensures.after ∙ sym r)
+    filling_part _ _ (188 * i + 1) _ f (188 * (i + 1)) _ (omega arith) (omega (arith, c.requires.packets)) (c.copy.ensures ∙ sym r)
 
 pub returns : goal.returns
 returns c = filling_all _ _ _ _ c.loop-i.invariant (omega (arith, c.requires.packets))

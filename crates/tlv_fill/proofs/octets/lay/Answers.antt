@@ -8,5 +8,5 @@ returns c =
     let a = c.args in
     pieces_filled a.packets.now a.taken a.owed c.min-carried.result a.slots.now c.requires c.min-carried.ensures _ _ _ _ _
     c.put_fillers.ensures (omega (arith, c.split_at_mut-front.ensures.front_len))
-    c.copy_from_slice.ensures.after
+    c.copy.ensures
     c.put_fillers-2.ensures (omega (arith, c.split_at_mut-front.ensures.back_len, c.split_at_mut-middle.ensures.back_len))

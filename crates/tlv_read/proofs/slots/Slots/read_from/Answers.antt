@@ -24,6 +24,15 @@ returns-in-Stop c =
     let needs = lent_needs s.size s.octets.now s.lost.now s.begins.now a.from a.packets.now s.lending c.requires.within c.requires.place in
     turn_end _ _ _ _ _ _ _ needs l.p l.w l.packets l.invariant c.in-Stop.at 0 true refl c.in-Stop.ensures
 
+pub overflow_add-p : goal.overflow_add-p
+overflow_add-p c =
+    let a = c.args in
+    let s = a.self in
+    let l = c.loop-at in
+    let needs = lent_needs s.size s.octets.now s.lost.now s.begins.now a.from a.packets.now s.lending c.requires.within c.requires.place in
+    let m = turn_moves _ _ _ _ _ _ _ needs l.p l.w l.packets l.invariant c.in-On.at c.in-On.size false refl c.in-On.ensures in
+    omega (arith, m.from_end)
+
 pub overflow_add-w : goal.overflow_add-w
 overflow_add-w c =
     let a = c.args in
@@ -33,8 +42,8 @@ overflow_add-w c =
     let m = turn_moves _ _ _ _ _ _ _ needs l.p l.w l.packets l.invariant c.in-On.at c.in-On.size false refl c.in-On.ensures in
     omega (arith, m.to_end)
 
-pub slice_bounds-copy_from_slice-end : goal.slice_bounds-copy_from_slice-end
-slice_bounds-copy_from_slice-end c =
+pub slice_bounds-copy-end : goal.slice_bounds-copy-end
+slice_bounds-copy-end c =
     let a = c.args in
     let s = a.self in
     let l = c.loop-at in
@@ -42,8 +51,8 @@ slice_bounds-copy_from_slice-end c =
     let m = turn_moves _ _ _ _ _ _ _ needs l.p l.w l.packets l.invariant c.in-On.at c.in-On.size false refl c.in-On.ensures in
     omega (arith, m.to_end)
 
-pub slice_bounds-copy_from_slice-end-in-On : goal.slice_bounds-copy_from_slice-end-in-On
-slice_bounds-copy_from_slice-end-in-On c =
+pub slice_bounds-copy-end-in-On : goal.slice_bounds-copy-end-in-On
+slice_bounds-copy-end-in-On c =
     let a = c.args in
     let s = a.self in
     let l = c.loop-at in
@@ -68,6 +77,6 @@ loop-at-preserved c =
     let needs = lent_needs s.size s.octets.now s.lost.now s.begins.now a.from a.packets.now s.lending c.requires.within c.requires.place in
     let m = turn_moves _ _ _ _ _ _ _ needs l.p l.w l.packets l.invariant c.in-On.at c.in-On.size false refl c.in-On.ensures in
     let size = c.in-On.size in
-    let y = c.copy_from_slice.ensures.after in
+    let y = c.copy.ensures in
     turn_next _ _ _ _ _ _ _ needs l.p l.w l.packets l.invariant c.in-On.at size false refl c.in-On.ensures _ _ y
     (put_lent l.w (l.w + size) l.packets _ (omega arith) (ap length y ∙ length_part l.p (l.p + size) s.octets.now m.from_end ∙ omega arith))
