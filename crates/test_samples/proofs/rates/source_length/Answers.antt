@@ -10,10 +10,10 @@ most rate = omega (arith, rows_most rate)
 
 pub overflow_add-result : goal.overflow_add-result
 overflow_add-result c =
-    let m : c.data_octets.result ≤ 5049 = rw c.data_octets.ensures (most c.args.rate) in
+    let m : c.data_octets.result ≤ 5049 = rw c.data_octets.ensures (most c.from.result) in
     omega (arith, m)
 
 pub returns : goal.returns
 returns c =
-    let m : c.data_octets.result ≤ 5049 = rw c.data_octets.ensures (most c.args.rate) in
+    let m : c.data_octets.result ≤ 5049 = rw c.data_octets.ensures (most c.from.result) in
     omega (arith, m)
